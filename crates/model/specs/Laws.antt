@@ -1,0 +1,1 @@
+-- What is proved of document 01's definitions.

@@ -1,0 +1,162 @@
+-- Document 01, "Small cards, by hand": K1 to K10, rows of one table under one theorem, computed from the definitions. Assumes nothing.
+use Prim.Native.Nat.{ℕ, suc, _-_}
+use mathlib.Core.Path.{_≡_, refl}
+use mathlib.Core.List.{List, [], _∷_, _++_, map}
+use lib.IntN.{ℤ, pos, negsuc, negℤ}
+use lib.ListN.{replicate}
+use Rattle.runs.specs.Runs.{runs, push}
+use Rattle.runs.specs.Intervals.{Interval, intervals as maximal-runs}
+use Rattle.model.specs.Limits.{words, list-room}
+use Rattle.model.specs.Bounded.{all-below, any-below, sum-below, join-below, those-below, all-in, any-in, sum-in, join-in}
+use Rattle.model.specs.Columns.{Device, height, cells-in, top-in, columns, kind, cells, top}
+use Rattle.model.specs.Tasks.{word, lifted, blocks, block, sized, block-ok, follows, well-formed, step}
+use Rattle.model.specs.Book.{placed, covers, covered, held, free, block-fits, fits, fits-at, intervals}
+use Rattle.model.specs.Listing.{ranges}
+use Rattle.model.specs.Choice.{lies, left-in, remaining, pieces, holder, home, stretch, judge, better, see, climb, choice, chosen}
+use Rattle.model.specs.Record.{bytes16}
+use Rattle.model.specs.Sound.{number-ok}
+use Rattle.model.specs.Calls.{Call, list, choose, place, release, lent, refused, no-position, runs-in, refusals, insert, without, natural, range-bytes, over, position-number, done, unless, on-book}
+use Rattle.model.specs.History.{trace, book-of-history}
+
+-- ---- how the rows are written
+
+-- two bytes of a signed number, two's complement
+abbrev signed : ℤ → List ℕ
+signed (pos n) = bytes16 n
+signed (negsuc n) = bytes16 (words - suc n)
+
+-- a block's bytes
+unfoldable block-bytes : ℕ → ℕ → ℤ → ℤ → List ℕ
+block-bytes c k bottom top = (c ∷ k ∷ []) ++ signed bottom ++ signed top
+
+-- blocks of kind C and of kind B, from a bottom that is not negative
+abbrev C-block : ℕ → ℕ → ℕ → List ℕ
+C-block c bottom top = block-bytes c 0 (pos bottom) (pos top)
+
+abbrev B-block : ℕ → ℕ → ℕ → List ℕ
+B-block c bottom top = block-bytes c 1 (pos bottom) (pos top)
+
+-- a device
+abbrev card : ℕ → List ℕ → Device
+card rows kinds = record { rows = rows; kinds = kinds }
+
+-- the ranges of task t after some calls: column, first, step, last of each, as the sheet prints them
+unfoldable listed : Device → List Call → List ℕ → List ℕ
+listed d cs t = join-in (λ r. r .column ∷ r .first ∷ r .step ∷ r .last ∷ []) (ranges d (book-of-history d cs .final) t)
+
+-- the answers of some calls
+unfoldable answers : Device → List Call → List ℤ
+answers d cs = book-of-history d cs .answers
+
+-- the free intervals of column 0 after some calls: bottom and top of each
+unfoldable left : Device → List Call → List ℕ
+left d cs = join-in (λ i. i .bottom ∷ i .top ∷ []) (intervals d (book-of-history d cs .final) 0)
+
+-- n and s of task t at column p, bottom y of an empty device
+unfoldable score : Device → List ℕ → ℕ → ℕ → List ℕ
+score d t p y = pieces (placed t p y) (columns d) (intervals d []) ∷ stretch (placed t p y) (intervals d []) ∷ []
+
+-- a row: which card, what the definitions give, and what document 01 states
+pub record Row : Type 0 where
+  pub card : ℕ
+  pub found : List ℤ
+  pub stated : List ℤ
+
+abbrev row : ℕ → List ℤ → List ℤ → Row
+row k f s = record { card = k; found = f; stated = s }
+
+abbrev numbers : List ℕ → List ℤ
+numbers = map pos
+
+-- an output of the least length that list takes
+abbrev room : List ℕ
+room = replicate list-room 0
+
+-- ---- the cards and tasks
+
+K1 : Device
+K1 = card 2 (1 ∷ [])
+
+K2 : Device
+K2 = card 3 (1 ∷ [])
+
+K3 : Device
+K3 = card 5 (0 ∷ 0 ∷ 1 ∷ [])
+
+K4 : Device
+K4 = card 5 (1 ∷ 0 ∷ [])
+
+K5 : Device
+K5 = card 10 (0 ∷ 1 ∷ [])
+
+K6 : Device
+K6 = card 1 (0 ∷ [])
+
+K7 : Device
+K7 = card 5 (0 ∷ [])
+
+-- C 0–2, C 0–4 and B 0–5, each alone
+C-2 : List ℕ
+C-2 = C-block 0 0 2
+
+C-4 : List ℕ
+C-4 = C-block 0 0 4
+
+B-5 : List ℕ
+B-5 = B-block 0 0 5
+
+-- lines 4 to 6 of the sheet
+lines-4-6 : List ℕ
+lines-4-6 = C-block 0 0 2 ++ block-bytes 1 0 (negsuc 1) (pos 2) ++ B-block 2 1 6
+
+-- the same placed by line 8
+line-8 : List Call
+line-8 = place lines-4-6 7 0 (pos 4) ∷ []
+
+K4-task : List ℕ
+K4-task = B-block 0 0 5 ++ C-block 1 1 3
+
+K5-task : List ℕ
+K5-task = C-block 0 0 2 ++ B-block 1 0 5
+
+-- "half rows 2–4 of column 0 are held"; K7: "2–4 and 4–6 held"
+held-2-4 : List Call
+held-2-4 = place C-2 1 0 (pos 2) ∷ []
+
+held-2-6 : List Call
+held-2-6 = held-2-4 ++ (place C-2 2 0 (pos 4) ∷ [])
+
+-- ---- the table
+
+pub table : List Row
+table =
+    row 1 (answers K1 (list B-5 room ∷ choose B-5 ∷ [])) (negℤ (pos 9) ∷ negℤ (pos 9) ∷ [])
+    ∷ row 2 (numbers (listed K2 [] B-5)) (numbers (0 ∷ 0 ∷ 5 ∷ 0 ∷ []))
+    ∷ row 3 (numbers (listed K3 [] lines-4-6)) (numbers (0 ∷ 4 ∷ 10 ∷ 4 ∷ []))
+    ∷ row 3 (numbers (score K3 lines-4-6 0 4)) (numbers (5 ∷ 30 ∷ []))
+    ∷ row 4 (numbers (listed K4 [] K4-task)) (numbers (0 ∷ 5 ∷ 10 ∷ 5 ∷ []))
+    ∷ row 5 (numbers (listed K5 [] K5-task)) (numbers (0 ∷ 0 ∷ 10 ∷ 10 ∷ []))
+    ∷ row 5 (numbers (listed K5 held-2-4 K5-task)) (numbers (0 ∷ 0 ∷ 10 ∷ 10 ∷ []))
+    ∷ row 6 (numbers (listed K6 [] C-2)) (numbers (0 ∷ 0 ∷ 2 ∷ 0 ∷ []))
+    ∷ row 6 (answers K6 (list C-4 room ∷ choose C-4 ∷ [])) (negℤ (pos 9) ∷ negℤ (pos 9) ∷ [])
+    ∷ row 7 (numbers (left K7 (held-2-6 ++ (release 1 ∷ [])))) (numbers (0 ∷ 4 ∷ 6 ∷ 10 ∷ []))
+    ∷ row 7 (numbers (left K7 (held-2-6 ++ (release 1 ∷ release 2 ∷ [])))) (numbers (0 ∷ 10 ∷ []))
+    ∷ row 8 (answers K7 (choose (C-block 0 0 2 ++ C-block 0 2 4) ∷ [])) (negℤ (pos 5) ∷ [])
+    ∷ row 8 (answers K7 (choose (C-block 0 0 2 ++ C-block 0 4 6) ∷ [])) (pos 0 ∷ [])
+    ∷ row 9 (answers K2 (choose (B-block 0 0 4) ∷ [])) (negℤ (pos 5) ∷ [])
+    ∷ row 10 (numbers (listed K3 line-8 C-4)) (numbers (0 ∷ 0 ∷ 2 ∷ 0 ∷ 0 ∷ 6 ∷ 2 ∷ 6 ∷ 1 ∷ 6 ∷ 2 ∷ 6 ∷ []))
+    ∷ row 10 (answers K3 (line-8 ++ (list C-4 room ∷ choose C-4 ∷ []))) (pos 0 ∷ pos 3 ∷ pos 0 ∷ [])
+    ∷ []
+
+-- THEOREM: the definitions give what document 01 states, card by card
+pub small-cards : map (λ (r : Row). r .found) table ≡ map (λ (r : Row). r .stated) table
+unfolding K1 K2 K3 K4 K5 K6 K7 C-2 C-4 B-5 lines-4-6 line-8 K4-task K5-task held-2-4 held-2-6 table listed answers left score block-bytes
+    all-below any-below sum-below join-below those-below all-in any-in sum-in join-in
+    runs push maximal-runs
+    height cells-in top-in columns kind cells top
+    word lifted blocks block sized block-ok follows well-formed step
+    placed covers covered held free block-fits fits fits-at intervals
+    ranges lies left-in remaining pieces holder home stretch judge better see climb choice chosen
+    bytes16 number-ok lent refused no-position runs-in refusals insert without natural range-bytes over position-number done unless on-book
+    trace book-of-history
+small-cards = refl

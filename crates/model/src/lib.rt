@@ -1,0 +1,109 @@
+// The model of document 01. Its definitions stand in specs/, what is proved of them in specs/Laws.
+// The code here is the kind of a column, and the limits, lengths and offsets that all other crates use.
+ghost use mathlib.Core.Path.{_≡_};
+ghost use Prim.Native.Nat.{_≤_};
+ghost use Rattle.model.specs.Limits.{max-rows};
+ghost use Rattle.model.specs.Columns.{height, cells-in, top-in};
+ghost use Rattle.model.specs.Kinds.{number-of, kind-of};
+
+// The limits of a device, a task and a book.
+pub const MAX_ROWS: u32 = 128;
+pub const MAX_COLUMNS: usize = 64;
+pub const MAX_BLOCKS: usize = 32;
+pub const MAX_RUNNING: usize = 64;
+pub const MAX_INTERVALS: usize = 64;
+pub const MAX_NUMBER: u32 = 65535;
+pub const REACH: u32 = 256;
+
+// Lengths and offsets in bytes.
+pub const RECORD_SIZE: usize = 29188;
+pub const COLUMNS_AT: usize = 2;
+pub const RUNNING_AT: usize = 3;
+pub const KINDS_AT: usize = 4;
+pub const COUNTS_AT: usize = 68;
+pub const INTERVALS_AT: usize = 132;
+pub const COLUMN_SIZE: usize = 256;
+pub const INTERVAL_SIZE: usize = 4;
+pub const ENTRIES_AT: usize = 16516;
+pub const ENTRY_SIZE: usize = 198;
+pub const BLOCKS_AT: usize = 6;
+pub const BLOCK_SIZE: usize = 6;
+pub const RANGE_SIZE: usize = 6;
+pub const LIST_ROOM: usize = 24576;
+pub const COLUMN_WEIGHT: u32 = 1024;
+
+// The kind of a column: logic (CLB), memory (BRAM) or multiplier (DSP).
+pub enum Kind {
+    C,
+    B,
+    D,
+}
+
+// What a kind byte says.
+pub enum KindRead {
+    Known(Kind),
+    Unknown,
+}
+
+impl Kind {
+    // Heights in half rows.
+    pub const C_HEIGHT: u32 = 2;
+    pub const B_HEIGHT: u32 = 5;
+    pub const D_HEIGHT: u32 = 5;
+
+    pub fn height(self) -> u32
+        ensures { λ r. ⌜ r ≡ height (number-of self) ⌝ }
+    {
+        match self {
+            Kind::C => Kind::C_HEIGHT,
+            Kind::B => Kind::B_HEIGHT,
+            Kind::D => Kind::D_HEIGHT,
+        }
+    }
+
+    // The whole cells of a column of this kind.
+    pub fn cells(self, rows: u32) -> u32
+        requires { ⌜ rows ≤ max-rows ⌝ }
+        ensures { λ r. ⌜ r ≡ cells-in rows (number-of self) ⌝ }
+    {
+        match self {
+            Kind::C => 2 * rows / Kind::C_HEIGHT,
+            Kind::B => 2 * rows / Kind::B_HEIGHT,
+            Kind::D => 2 * rows / Kind::D_HEIGHT,
+        }
+    }
+
+    // The top of the last of them: what lies above is no cell.
+    pub fn top(self, rows: u32) -> u32
+        requires { ⌜ rows ≤ max-rows ⌝ }
+        ensures { λ r. ⌜ r ≡ top-in rows (number-of self) ⌝ }
+    {
+        match self {
+            Kind::C => Kind::C_HEIGHT * (2 * rows / Kind::C_HEIGHT),
+            Kind::B => Kind::B_HEIGHT * (2 * rows / Kind::B_HEIGHT),
+            Kind::D => Kind::D_HEIGHT * (2 * rows / Kind::D_HEIGHT),
+        }
+    }
+
+    pub fn number(self) -> u8
+        ensures { λ r. ⌜ r ≡ number-of self ⌝ }
+    {
+        match self {
+            Kind::C => 0,
+            Kind::B => 1,
+            Kind::D => 2,
+        }
+    }
+
+    // The kind that a kind byte says.
+    pub fn of_byte(byte: u8) -> KindRead
+        ensures { λ r. ⌜ r ≡ kind-of byte ⌝ }
+    {
+        match byte {
+            0 => KindRead::Known(Kind::C),
+            1 => KindRead::Known(Kind::B),
+            2 => KindRead::Known(Kind::D),
+            _ => KindRead::Unknown,
+        }
+    }
+}

@@ -1,0 +1,43 @@
+-- `runs::lcm` meets its contract. The loop's invariant: `m` is a multiple of `a`, and no lower one is a multiple of `b` (`Sought`). The measure is what is left
+-- up to `a * b`. Assumes nothing.
+use Prim.Native.Nat.{_*_, _-_}
+use native.Mathlib.Omega.{arith}
+use native.Mathlib.Nat.{mul-le-mul}
+use Rattle.runs.specs.Laws.Meet.{Sought, lcm-start, lcm-room, lcm-next, lcm-done}
+use Rattle.runs.proofs.lcm.Statement.{statement}
+use Rattle.runs.proofs.lcm.Tie as tie
+use Rattle.runs.proofs.lcm.Reads as reads
+use Rattle.runs.proofs.lcm.Lts as lts
+
+abbrev Inv-loop : tie.InvT-loop
+Inv-loop a b m₀ m = Sought a b m
+
+abbrev μ-loop : tie.MeasureT-loop
+μ-loop a b m₀ m = a * b - m
+
+loop-holds : tie.Need-loop-holds Inv-loop μ-loop
+loop-holds c = lcm-start (c .args .a) (c .args .b) (omega arith)
+
+rem-loop : tie.Need-rem-loop Inv-loop μ-loop
+rem-loop c = omega arith
+
+add-m : tie.Need-add-m Inv-loop μ-loop
+add-m c =
+    let a = c .before .before .args .a in
+    let b = c .before .before .args .b in
+    let r = lcm-room a b (c .before .loop .m) (c .before .before .pre .0 .0) (c .before .loop .inv) (c .loop-test .taken) in
+    let q = mul-le-mul {n₁ = a} {m₁ = b} {n₂ = 255} {m₂ = 255} (omega arith) (omega arith) in
+    omega (arith, r, q)
+
+loop-less : tie.Need-loop-less Inv-loop μ-loop
+loop-less c = omega (arith, lcm-room (c .before .before .args .a) (c .before .before .args .b) (c .before .loop .m) (c .before .before .pre .0 .0) (c .before .loop .inv) (c .loop-test .taken))
+
+loop-again : tie.Need-loop-again Inv-loop μ-loop
+loop-again c = lcm-next (c .before .before .args .a) (c .before .before .args .b) (c .before .loop .m) (c .before .before .pre .0 .0) (c .before .loop .inv) (c .loop-test .taken)
+
+returns : tie.Need-returns Inv-loop μ-loop
+returns c = lcm-done (c .before .before .args .a) (c .before .before .args .b) (c .before .loop .m) (c .before .before .pre .0 .0) (c .before .loop .inv) (c .before .before .pre .1 .0) (c .loop-test .left)
+
+pub lcm-spec : {M : Type 1} → statement M
+lcm-spec =
+    tie.close (tie.spec Inv-loop μ-loop loop-holds rem-loop add-m loop-less loop-again returns)

@@ -1,0 +1,91 @@
+//! The calls on byte strings, with the shapes that the library has.
+//!
+//! Each call judges the record first, so −1 and −2 come before all others, and
+//! writes only once nothing more can be refused.
+
+use crate::book::Book;
+use crate::layout::{column_part, COUNTS, INTERVAL_BYTES, RECORD_BYTES};
+use crate::record::record_of;
+use crate::refusal::Refusal;
+use crate::sound;
+
+/// The answer of a call as a number: what it gives, or the refusal's number.
+pub fn answer(result: Result<i32, Refusal>) -> i32 {
+    result.unwrap_or_else(Refusal::number)
+}
+
+/// The book of a sound record, or −1 or −2.
+pub fn book_of(record: &[u8]) -> Result<Book, Refusal> {
+    if record.len() != RECORD_BYTES {
+        return Err(Refusal::RecordLength);
+    }
+    sound::read(record).map_err(|_| Refusal::RecordNotSound)
+}
+
+/// New: writes the record with all cells free. Answers 0, −1 or −3.
+pub fn new(record: &mut [u8], rows: u32, kinds: &[u8]) -> i32 {
+    if record.len() != RECORD_BYTES {
+        return Refusal::RecordLength.number();
+    }
+    let made = Book::new(rows, kinds);
+    answer(made.map(|book| write(&book, record)))
+}
+
+/// Place: enters the task as running. Answers 0, −1, −2, −4, −5, −7, −8 or −10.
+pub fn place(record: &mut [u8], task: &[u8], number: u32, column: u32, bottom: i32) -> i32 {
+    let placed = book_of(record).and_then(|mut book| {
+        book.place(task, number, column, bottom)?;
+        Ok(book)
+    });
+    answer(placed.map(|book| write(&book, record)))
+}
+
+/// Release: frees the task's cells and removes its entry. Answers 0, −1, −2 or −11.
+pub fn release(record: &mut [u8], number: u32) -> i32 {
+    let released = book_of(record).and_then(|mut book| {
+        book.release(number)?;
+        Ok(book)
+    });
+    answer(released.map(|book| write(&book, record)))
+}
+
+/// List: writes the ranges and answers their number, or −1, −2, −4, −5, −6 or −9.
+pub fn list(record: &[u8], task: &[u8], output: &mut [u8]) -> i32 {
+    let listed = book_of(record).and_then(|book| book.list(task, output));
+    answer(listed.map(|count| count as i32))
+}
+
+/// Choose: answers column × 1,024 + bottom, or −1, −2, −4, −5 or −9.
+pub fn choose(record: &[u8], task: &[u8]) -> i32 {
+    let chosen = book_of(record).and_then(|book| book.choose(task));
+    answer(chosen.map(|position| position.answer()))
+}
+
+/// Interval count: answers how many intervals a column has, or −1, −2 or −3.
+pub fn interval_count(record: &[u8], column: u32) -> i32 {
+    answer(count(record, column).map(|count| count as i32))
+}
+
+/// The view: a column's intervals as a part of the record, empty where interval count refuses.
+pub fn intervals(record: &[u8], column: u32) -> &[u8] {
+    match count(record, column) {
+        Ok(count) => &record[column_part(column as usize)][..INTERVAL_BYTES * count],
+        Err(_) => &[],
+    }
+}
+
+/// The interval count, as both interval calls need it.
+fn count(record: &[u8], column: u32) -> Result<usize, Refusal> {
+    let book = book_of(record)?;
+    let column = usize::try_from(column).map_err(|_| Refusal::DeviceOrColumn)?;
+    if column >= book.device().columns() {
+        return Err(Refusal::DeviceOrColumn);
+    }
+    Ok(usize::from(record[COUNTS + column]))
+}
+
+/// Overwrites a record of the right length with the book's, and answers 0.
+fn write(book: &Book, record: &mut [u8]) -> i32 {
+    record.copy_from_slice(&record_of(book));
+    0
+}

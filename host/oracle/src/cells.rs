@@ -1,0 +1,113 @@
+//! Sets of cells, and the intervals: maximal runs of free cells in one column.
+
+use crate::device::{Device, MAX_COLUMNS};
+
+/// A set of cells, each named by its column and its place in the column.
+///
+/// One word for each column, one bit for each cell: no column has over 128 cells.
+#[derive(Clone, Debug, PartialEq, Eq)]
+pub struct CellSet {
+    words: [u128; MAX_COLUMNS],
+}
+
+impl CellSet {
+    /// The set without cells.
+    pub fn empty() -> CellSet {
+        CellSet {
+            words: [0; MAX_COLUMNS],
+        }
+    }
+
+    /// All cells of a device.
+    pub fn all_of(device: &Device) -> CellSet {
+        let mut set = CellSet::empty();
+        for column in 0..device.columns() {
+            for cell in 0..device.cells(column) {
+                set.insert(column, cell);
+            }
+        }
+        set
+    }
+
+    /// Whether the cell is in the set.
+    pub fn contains(&self, column: usize, cell: usize) -> bool {
+        self.words[column] >> cell & 1 == 1
+    }
+
+    /// Adds a cell; answers whether it was not there before.
+    pub fn insert(&mut self, column: usize, cell: usize) -> bool {
+        let is_new = !self.contains(column, cell);
+        self.words[column] |= 1 << cell;
+        is_new
+    }
+
+    /// Takes a cell out.
+    pub fn remove(&mut self, column: usize, cell: usize) {
+        self.words[column] &= !(1 << cell);
+    }
+
+    /// How many cells are in the set.
+    pub fn len(&self) -> usize {
+        self.words
+            .iter()
+            .map(|word| word.count_ones() as usize)
+            .sum()
+    }
+
+    /// Whether there is no cell in the set.
+    pub fn is_empty(&self) -> bool {
+        self.len() == 0
+    }
+}
+
+/// A run of half rows in one column, top excluded.
+#[derive(Clone, Copy, Debug, PartialEq, Eq, Hash)]
+pub struct Interval {
+    /// The lowest half row.
+    pub bottom: i64,
+    /// The half row just above the highest.
+    pub top: i64,
+}
+
+impl Interval {
+    /// The height in half rows.
+    pub fn height(self) -> i64 {
+        self.top - self.bottom
+    }
+
+    /// Whether the other interval lies inside this one.
+    pub fn holds(self, other: Interval) -> bool {
+        self.bottom <= other.bottom && other.top <= self.top
+    }
+
+    /// The interval's four record bytes: bottom and top, little-endian.
+    pub fn to_bytes(self) -> [u8; 4] {
+        let bottom = (self.bottom as u16).to_le_bytes();
+        let top = (self.top as u16).to_le_bytes();
+        [bottom[0], bottom[1], top[0], top[1]]
+    }
+}
+
+/// The maximal runs of free cells in one column, upwards, in half rows.
+pub fn intervals(device: &Device, free: &CellSet, column: usize) -> Vec<Interval> {
+    let height = device.kind(column).map_or(0, |kind| kind.height());
+    let cells = device.cells(column);
+    let mut runs = Vec::new();
+    let mut first_of_run = None;
+    // One step past the last cell, so that a run that reaches it ends too.
+    for cell in 0..=cells {
+        let is_free = cell < cells && free.contains(column, cell);
+        match (first_of_run, is_free) {
+            (None, true) => first_of_run = Some(cell),
+            (Some(first), false) => {
+                runs.push(Interval {
+                    bottom: height * first as i64,
+                    top: height * cell as i64,
+                });
+                first_of_run = None;
+            }
+            _ => {}
+        }
+    }
+    runs
+}

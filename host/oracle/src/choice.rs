@@ -1,0 +1,75 @@
+//! The choice: of all fitting positions, the one with least n / s.
+
+use crate::cells::{intervals, CellSet, Interval};
+use crate::device::Device;
+use crate::fit::{cells_of, fits, fitting_positions, moved, moved_column, Position};
+use crate::task::Task;
+
+/// What a position costs: n over s.
+#[derive(Clone, Copy, Debug, PartialEq, Eq, Hash)]
+pub struct Weight {
+    /// The free intervals that remain, after placing, inside intervals that held a block.
+    pub n: i64,
+    /// The sum, over the blocks, of the height of the free interval that holds the block.
+    pub s: i64,
+}
+
+impl Weight {
+    /// Whether n / s is less here than there, by cross-products.
+    pub fn is_less_than(self, other: Weight) -> bool {
+        self.n * other.s < other.n * self.s
+    }
+}
+
+/// The weight of a position; none where the task does not fit.
+pub fn weigh(device: &Device, free: &CellSet, task: &Task, at: Position) -> Option<Weight> {
+    if !fits(device, free, task, at) {
+        return None;
+    }
+    let mut s = 0;
+    // The intervals that hold a block, each once: two blocks may share one.
+    let mut holders: Vec<(usize, Interval)> = Vec::new();
+    for block in task.blocks() {
+        let column = moved_column(device, block, at)?;
+        let holder = intervals(device, free, column)
+            .into_iter()
+            .find(|interval| interval.holds(moved(block, at)))?;
+        s += holder.height();
+        if !holders.contains(&(column, holder)) {
+            holders.push((column, holder));
+        }
+    }
+    let mut free_after = free.clone();
+    for (column, cell) in cells_of(device, task, at)? {
+        free_after.remove(column, cell);
+    }
+    let n = count_remaining(device, &free_after, &holders);
+    Some(Weight { n, s })
+}
+
+/// How many free intervals lie inside the given ones.
+fn count_remaining(device: &Device, free: &CellSet, holders: &[(usize, Interval)]) -> i64 {
+    let mut count = 0;
+    for &(column, holder) in holders {
+        let inside = intervals(device, free, column)
+            .into_iter()
+            .filter(|&interval| holder.holds(interval));
+        count += inside.count() as i64;
+    }
+    count
+}
+
+/// The chosen position, or none when no position fits.
+pub fn choose(device: &Device, free: &CellSet, task: &Task) -> Option<Position> {
+    let mut best: Option<(Position, Weight)> = None;
+    // Positions come by column and then by bottom, so only a lesser weight
+    // displaces an earlier one: that is how ties are to be broken.
+    for at in fitting_positions(device, free, task) {
+        let weight = weigh(device, free, task, at)?;
+        let is_better = best.is_none_or(|(_, least)| weight.is_less_than(least));
+        if is_better {
+            best = Some((at, weight));
+        }
+    }
+    best.map(|(at, _)| at)
+}

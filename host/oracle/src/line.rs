@@ -1,0 +1,185 @@
+//! The line reader: one line of a sheet, read into a device or a call.
+
+use std::fmt;
+
+use crate::device::Kind;
+use crate::refusal::Refusal;
+use crate::task::Block;
+
+/// The names line before the device.
+pub const DEVICE_NAMES: &[u8] = b"rows kinds";
+/// The names line before the calls.
+pub const CALL_NAMES: &[u8] = b"call task column kind bottom top";
+/// The most bytes of a line, without its newline.
+pub const LINE_BYTES: usize = 80;
+
+/// A device line: what new is called with.
+#[derive(Clone, Debug, PartialEq, Eq)]
+pub struct DeviceLine {
+    /// Rows, 0 to 65,535: whether they are a device's is for new to say.
+    pub rows: u32,
+    /// The kind bytes, at least one.
+    pub kinds: Vec<u8>,
+}
+
+/// One of the six calls of a sheet.
+#[derive(Clone, Copy, Debug, PartialEq, Eq)]
+pub enum LineCall {
+    /// B: adds a block to the draft.
+    Block(Block),
+    /// N: empties the draft.
+    Empty,
+    /// L: lists the draft.
+    List,
+    /// C: chooses a position for the draft.
+    Choose,
+    /// P: places the draft.
+    Place {
+        /// The task number, 0 to 65,535.
+        number: u16,
+        /// The column, 0 to 255.
+        column: u8,
+        /// The bottom.
+        bottom: i16,
+    },
+    /// R: releases a task.
+    Release {
+        /// The task number, 0 to 65,535.
+        number: u16,
+    },
+}
+
+/// The line that the reader reads as this call.
+impl fmt::Display for LineCall {
+    fn fmt(&self, f: &mut fmt::Formatter<'_>) -> fmt::Result {
+        match self {
+            LineCall::Block(block) => write!(
+                f,
+                "B 0 {} {} {} {}",
+                block.column,
+                char::from(block.kind.letter()),
+                block.bottom,
+                block.top
+            ),
+            LineCall::Empty => f.write_str("N 0 0 - 0 0"),
+            LineCall::List => f.write_str("L 0 0 - 0 0"),
+            LineCall::Choose => f.write_str("C 0 0 - 0 0"),
+            LineCall::Place {
+                number,
+                column,
+                bottom,
+            } => write!(f, "P {number} {column} - {bottom} 0"),
+            LineCall::Release { number } => write!(f, "R {number} 0 - 0 0"),
+        }
+    }
+}
+
+/// The lines of an input, without newlines; bytes after the last newline are one more line.
+pub fn lines(input: &[u8]) -> Vec<&[u8]> {
+    let mut lines: Vec<&[u8]> = input.split(|&byte| byte == b'\n').collect();
+    // What follows the last newline is a line only if there is something.
+    if lines.last().is_some_and(|last| last.is_empty()) {
+        lines.pop();
+    }
+    lines
+}
+
+/// Reads a names line: it is the expected one, or −12.
+pub fn read_names(line: &[u8], names: &[u8]) -> Result<(), Refusal> {
+    if line == names {
+        Ok(())
+    } else {
+        Err(Refusal::MalformedLine)
+    }
+}
+
+/// Reads a device line: rows and kind letters, or −12.
+pub fn read_device(line: &[u8]) -> Result<DeviceLine, Refusal> {
+    let fields = fields(line)?;
+    let [rows, letters] = fields[..] else {
+        return Err(Refusal::MalformedLine);
+    };
+    let rows: u16 = number(rows)?;
+    let kinds: Result<Vec<u8>, Refusal> = letters.iter().map(|&l| Ok(kind(&[l])?.byte())).collect();
+    let kinds = kinds?;
+    if kinds.is_empty() {
+        return Err(Refusal::MalformedLine);
+    }
+    let rows = u32::from(rows);
+    Ok(DeviceLine { rows, kinds })
+}
+
+/// Reads a call line: one of the six calls, or −12.
+pub fn read_call(line: &[u8]) -> Result<LineCall, Refusal> {
+    let fields = fields(line)?;
+    let [call, task, column, kind_field, bottom, top] = fields[..] else {
+        return Err(Refusal::MalformedLine);
+    };
+    let unused = |parts: &[&[u8]]| parts.iter().all(|&part| part == b"0");
+    let no_kind = kind_field == b"-";
+    match call {
+        b"B" if unused(&[task]) => Ok(LineCall::Block(Block {
+            column: number(column)?,
+            kind: kind(kind_field)?,
+            bottom: number(bottom)?,
+            top: number(top)?,
+        })),
+        b"N" if no_kind && unused(&[task, column, bottom, top]) => Ok(LineCall::Empty),
+        b"L" if no_kind && unused(&[task, column, bottom, top]) => Ok(LineCall::List),
+        b"C" if no_kind && unused(&[task, column, bottom, top]) => Ok(LineCall::Choose),
+        b"P" if no_kind && unused(&[top]) => Ok(LineCall::Place {
+            number: number(task)?,
+            column: number(column)?,
+            bottom: number(bottom)?,
+        }),
+        b"R" if no_kind && unused(&[column, bottom, top]) => Ok(LineCall::Release {
+            number: number(task)?,
+        }),
+        _ => Err(Refusal::MalformedLine),
+    }
+}
+
+/// The fields of a line that is not too long, parted by one space.
+fn fields(line: &[u8]) -> Result<Vec<&[u8]>, Refusal> {
+    if line.len() > LINE_BYTES {
+        return Err(Refusal::MalformedLine);
+    }
+    Ok(line.split(|&byte| byte == b' ').collect())
+}
+
+/// One kind letter.
+fn kind(field: &[u8]) -> Result<Kind, Refusal> {
+    match field {
+        &[letter] => Kind::from_letter(letter).ok_or(Refusal::MalformedLine),
+        _ => Err(Refusal::MalformedLine),
+    }
+}
+
+/// A decimal number, without plus sign, leading zero or "-0", in its field's range.
+///
+/// The field's range is that of the type that is asked for.
+fn number<N: TryFrom<i64>>(field: &[u8]) -> Result<N, Refusal> {
+    let value = decimal(field).ok_or(Refusal::MalformedLine)?;
+    N::try_from(value).map_err(|_| Refusal::MalformedLine)
+}
+
+/// The value of a decimal number; none where it is malformed or past every field's range.
+fn decimal(field: &[u8]) -> Option<i64> {
+    let (is_negative, digits) = match field {
+        [b'-', digits @ ..] => (true, digits),
+        digits => (false, digits),
+    };
+    let is_zero = digits == b"0";
+    let leading_zero = digits.first() == Some(&b'0') && !is_zero;
+    if digits.is_empty() || leading_zero || (is_zero && is_negative) {
+        return None;
+    }
+    let mut value: i64 = 0;
+    for digit in digits {
+        if !digit.is_ascii_digit() {
+            return None;
+        }
+        value = value.checked_mul(10)?.checked_add(i64::from(digit - b'0'))?;
+    }
+    Some(if is_negative { -value } else { value })
+}

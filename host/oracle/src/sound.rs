@@ -1,0 +1,231 @@
+//! Whether bytes are a sound record, judged sentence by sentence, and the book
+//! that a sound record stands for.
+//!
+//! Nothing here writes a record and compares: the regions are read, and each
+//! sentence of document 01 is checked on what was read.
+
+use std::collections::BTreeMap;
+use std::fmt;
+
+use crate::book::{Book, Running, MAX_RUNNING};
+use crate::cells::CellSet;
+use crate::device::{Device, MAX_COLUMNS, MAX_ROWS};
+use crate::fit::{cells_of, Position};
+use crate::layout::*;
+use crate::task::{Task, BLOCK_BYTES, MAX_BLOCKS};
+
+/// The first sentence found that does not hold of a record.
+#[derive(Clone, Copy, Debug, PartialEq, Eq, Hash)]
+pub enum Unsound {
+    /// It is not 29,188 bytes.
+    Length,
+    /// Rows are not 1 to 128.
+    Rows,
+    /// Columns are not 1 to 64.
+    Columns,
+    /// A column's kind is above 2.
+    Kind,
+    /// Over 64 running tasks.
+    RunningCount,
+    /// A column has over 64 intervals.
+    IntervalCount,
+    /// A running task has not 1 to 32 blocks.
+    BlockCount,
+    /// A running number is 0.
+    NumberZero,
+    /// Running numbers do not rise strictly.
+    NumbersRise,
+    /// A running task is not well-formed.
+    NotWellFormed,
+    /// A running task would not fit at its position on the empty device.
+    Misfit,
+    /// Two running tasks share a cell.
+    SharedCell,
+    /// The intervals are not exactly the maximal free runs, listed upwards.
+    Intervals,
+    /// An unused byte is not 0.
+    Unused,
+}
+
+impl fmt::Display for Unsound {
+    fn fmt(&self, f: &mut fmt::Formatter<'_>) -> fmt::Result {
+        write!(f, "the record is not sound: {self:?}")
+    }
+}
+
+impl std::error::Error for Unsound {}
+
+/// Judges the bytes and reads a sound record's device and book.
+pub fn read(record: &[u8]) -> Result<Book, Unsound> {
+    if record.len() != RECORD_BYTES {
+        return Err(Unsound::Length);
+    }
+    let device = read_device(record)?;
+    check_counts(record)?;
+    let running = read_running(record)?;
+    let free = free_cells(&device, &running)?;
+    for column in 0..device.columns() {
+        check_intervals(&device, &free, column, record)?;
+    }
+    check_unused(&device, running.len(), record)?;
+    Ok(Book::from_parts(device, running))
+}
+
+/// Whether the bytes are a sound record.
+pub fn is_sound(record: &[u8]) -> bool {
+    read(record).is_ok()
+}
+
+/// Rows, columns and kinds in their limits.
+fn read_device(record: &[u8]) -> Result<Device, Unsound> {
+    let rows = u32::from(two_bytes(record, ROWS));
+    if !(1..=MAX_ROWS).contains(&rows) {
+        return Err(Unsound::Rows);
+    }
+    let columns = usize::from(record[COLUMNS]);
+    if !(1..=MAX_COLUMNS).contains(&columns) {
+        return Err(Unsound::Columns);
+    }
+    Device::new(rows, &record[KINDS..KINDS + columns]).map_err(|_| Unsound::Kind)
+}
+
+/// Counts of running tasks and of intervals in their limits.
+fn check_counts(record: &[u8]) -> Result<(), Unsound> {
+    if usize::from(record[RUNNING]) > MAX_RUNNING {
+        return Err(Unsound::RunningCount);
+    }
+    let counts = &record[COUNTS..COUNTS + MAX_COLUMNS];
+    if counts.iter().any(|&n| usize::from(n) > MAX_INTERVALS) {
+        return Err(Unsound::IntervalCount);
+    }
+    Ok(())
+}
+
+/// The running tasks: numbers from 1, strictly rising, and well-formed tasks.
+fn read_running(record: &[u8]) -> Result<BTreeMap<u16, Running>, Unsound> {
+    let mut running = BTreeMap::new();
+    let mut previous = None;
+    for index in 0..usize::from(record[RUNNING]) {
+        let entry = &record[entry_part(index)];
+        let number = two_bytes(entry, ENTRY_NUMBER);
+        if number == 0 {
+            return Err(Unsound::NumberZero);
+        }
+        if previous.is_some_and(|previous| number <= previous) {
+            return Err(Unsound::NumbersRise);
+        }
+        previous = Some(number);
+        running.insert(number, read_entry(entry)?);
+    }
+    Ok(running)
+}
+
+/// One entry's task and position.
+fn read_entry(entry: &[u8]) -> Result<Running, Unsound> {
+    let blocks = usize::from(entry[ENTRY_BLOCK_COUNT]);
+    if !(1..=MAX_BLOCKS).contains(&blocks) {
+        return Err(Unsound::BlockCount);
+    }
+    let bytes = &entry[ENTRY_BLOCKS..ENTRY_BLOCKS + BLOCK_BYTES * blocks];
+    let task = Task::from_bytes(bytes).map_err(|_| Unsound::NotWellFormed)?;
+    let position = Position {
+        column: u32::from(entry[ENTRY_COLUMN]),
+        bottom: i32::from(two_bytes(entry, ENTRY_BOTTOM)),
+    };
+    Ok(Running { task, position })
+}
+
+/// The free cells, once each task fits on the empty device and none share a cell.
+fn free_cells(device: &Device, running: &BTreeMap<u16, Running>) -> Result<CellSet, Unsound> {
+    let mut held = CellSet::empty();
+    let mut free = CellSet::all_of(device);
+    for entry in running.values() {
+        let cells = cells_of(device, &entry.task, entry.position).ok_or(Unsound::Misfit)?;
+        for (column, cell) in cells {
+            if !held.insert(column, cell) {
+                return Err(Unsound::SharedCell);
+            }
+            free.remove(column, cell);
+        }
+    }
+    Ok(free)
+}
+
+/// The listed intervals are exactly the maximal free runs of the column, upwards.
+fn check_intervals(
+    device: &Device,
+    free: &CellSet,
+    column: usize,
+    record: &[u8],
+) -> Result<(), Unsound> {
+    let count = usize::from(record[COUNTS + column]);
+    let part = &record[column_part(column)];
+    let mut listed = CellSet::empty();
+    let mut previous_top = None;
+    for interval in part.chunks_exact(INTERVAL_BYTES).take(count) {
+        let bottom = i64::from(two_bytes(interval, 0));
+        let top = i64::from(two_bytes(interval, 2));
+        if previous_top.is_some_and(|previous| bottom < previous) {
+            return Err(Unsound::Intervals);
+        }
+        previous_top = Some(top);
+        let run = maximal_free_run(device, free, column, bottom, top);
+        for cell in run.ok_or(Unsound::Intervals)? {
+            listed.insert(column, cell);
+        }
+    }
+    // Nothing free is left out.
+    let all_listed = (0..device.cells(column))
+        .all(|cell| listed.contains(column, cell) == free.contains(column, cell));
+    if all_listed {
+        Ok(())
+    } else {
+        Err(Unsound::Intervals)
+    }
+}
+
+/// The cells from bottom to top, if they are a maximal run of free cells.
+fn maximal_free_run(
+    device: &Device,
+    free: &CellSet,
+    column: usize,
+    bottom: i64,
+    top: i64,
+) -> Option<std::ops::Range<usize>> {
+    let height = device.kind(column)?.height();
+    let are_cells = bottom % height == 0 && top % height == 0;
+    if !are_cells || bottom >= top || top > device.top_of_last_cell(column) {
+        return None;
+    }
+    let cells = (bottom / height) as usize..(top / height) as usize;
+    let is_free = |cell: usize| cell < device.cells(column) && free.contains(column, cell);
+    let free_below = cells.start > 0 && is_free(cells.start - 1);
+    let free_above = is_free(cells.end);
+    let all_free = cells.clone().all(is_free);
+    (all_free && !free_below && !free_above).then_some(cells)
+}
+
+/// All bytes that stand for nothing are 0.
+fn check_unused(device: &Device, running: usize, record: &[u8]) -> Result<(), Unsound> {
+    let is_zero = |part: &[u8]| part.iter().all(|&byte| byte == 0);
+    let columns = device.columns();
+    let mut good = is_zero(&record[KINDS + columns..COUNTS]);
+    good &= is_zero(&record[COUNTS + columns..INTERVALS]);
+    for column in 0..MAX_COLUMNS {
+        // The count of a column that the device has not is 0, or unused bytes are not.
+        let used = INTERVAL_BYTES * usize::from(record[COUNTS + column]);
+        good &= is_zero(&record[column_part(column)][used..]);
+    }
+    for index in 0..MAX_RUNNING {
+        let entry = &record[entry_part(index)];
+        let blocks = usize::from(entry[ENTRY_BLOCK_COUNT]);
+        let used = ENTRY_BLOCKS + BLOCK_BYTES * blocks;
+        let used = if index < running { used } else { 0 };
+        good &= is_zero(&entry[used..]);
+    }
+    if good {
+        Ok(())
+    } else {
+        Err(Unsound::Unused)
+    }
+}

@@ -1,0 +1,144 @@
+//! Tasks: blocks, how they are read from bytes, and when a task is well-formed.
+
+use crate::device::Kind;
+use crate::refusal::Refusal;
+
+/// The bytes of one block.
+pub const BLOCK_BYTES: usize = 6;
+/// The most blocks that a task has.
+pub const MAX_BLOCKS: usize = 32;
+
+/// A block; bottom and top are relative to the first block's bottom.
+#[derive(Clone, Copy, Debug, PartialEq, Eq, Hash)]
+pub struct Block {
+    /// The column, counted from the task's own first column.
+    pub column: u8,
+    /// The kind of column that the block needs.
+    pub kind: Kind,
+    /// The lowest half row of the block.
+    pub bottom: i16,
+    /// The half row just above the block.
+    pub top: i16,
+}
+
+impl Block {
+    /// Reads six bytes; there is no block where the kind byte names no kind.
+    pub fn from_bytes(bytes: [u8; BLOCK_BYTES]) -> Option<Block> {
+        Some(Block {
+            column: bytes[0],
+            kind: Kind::from_byte(bytes[1])?,
+            bottom: i16::from_le_bytes([bytes[2], bytes[3]]),
+            top: i16::from_le_bytes([bytes[4], bytes[5]]),
+        })
+    }
+
+    /// The block's six bytes.
+    pub fn to_bytes(self) -> [u8; BLOCK_BYTES] {
+        let bottom = self.bottom.to_le_bytes();
+        let top = self.top.to_le_bytes();
+        [
+            self.column,
+            self.kind.byte(),
+            bottom[0],
+            bottom[1],
+            top[0],
+            top[1],
+        ]
+    }
+
+    /// The sentences of well-formedness that speak of one block alone.
+    fn is_well_formed(&self) -> bool {
+        let bottom = i64::from(self.bottom);
+        let top = i64::from(self.top);
+        let size = top - bottom;
+        self.column <= 63
+            && bottom >= -256
+            && top <= 256
+            && size > 0
+            && size % self.kind.height() == 0
+    }
+
+    /// The sentences of well-formedness that speak of two blocks in a row.
+    fn may_follow(&self, previous: &Block) -> bool {
+        if self.column != previous.column {
+            // Columns never fall; one between the two may have no block.
+            return self.column > previous.column;
+        }
+        // Touching blocks would be one block, so a gap is asked for.
+        self.kind == previous.kind && self.bottom > previous.top
+    }
+}
+
+/// A well-formed task, with the bytes that it was read from.
+#[derive(Clone, Debug, PartialEq, Eq)]
+pub struct Task {
+    bytes: Vec<u8>,
+    blocks: Vec<Block>,
+}
+
+impl Task {
+    /// Reads a task, or refuses with −4 (its length) or −5 (not well-formed).
+    pub fn from_bytes(bytes: &[u8]) -> Result<Task, Refusal> {
+        let too_long = bytes.len() > MAX_BLOCKS * BLOCK_BYTES;
+        if bytes.is_empty() || too_long || bytes.len() % BLOCK_BYTES != 0 {
+            return Err(Refusal::TaskLength);
+        }
+        let blocks = read_blocks(bytes).ok_or(Refusal::TaskNotWellFormed)?;
+        if !is_well_formed(&blocks) {
+            return Err(Refusal::TaskNotWellFormed);
+        }
+        Ok(Task {
+            bytes: bytes.to_vec(),
+            blocks,
+        })
+    }
+
+    /// Reads a task from blocks, with the same refusals.
+    pub fn from_blocks(blocks: &[Block]) -> Result<Task, Refusal> {
+        Task::from_bytes(&bytes_of(blocks))
+    }
+
+    /// The block bytes of the task.
+    pub fn bytes(&self) -> &[u8] {
+        &self.bytes
+    }
+
+    /// The blocks of the task.
+    pub fn blocks(&self) -> &[Block] {
+        &self.blocks
+    }
+
+    /// The step of the task's ranges: 2 when all blocks are C, 5 when none is, 10 when both occur.
+    pub fn step(&self) -> i64 {
+        let some_c = self.blocks.iter().any(|block| block.kind == Kind::C);
+        let some_other = self.blocks.iter().any(|block| block.kind != Kind::C);
+        match (some_c, some_other) {
+            (true, false) => 2,
+            (true, true) => 10,
+            _ => 5,
+        }
+    }
+}
+
+/// The bytes of a list of blocks, well-formed or not.
+pub fn bytes_of(blocks: &[Block]) -> Vec<u8> {
+    blocks.iter().flat_map(|block| block.to_bytes()).collect()
+}
+
+/// Reads whole blocks; none where a kind byte is above 2.
+fn read_blocks(bytes: &[u8]) -> Option<Vec<Block>> {
+    bytes
+        .chunks_exact(BLOCK_BYTES)
+        .map(|b| Block::from_bytes([b[0], b[1], b[2], b[3], b[4], b[5]]))
+        .collect()
+}
+
+/// Well-formedness, sentence by sentence.
+fn is_well_formed(blocks: &[Block]) -> bool {
+    let first_is_good = blocks
+        .first()
+        .is_some_and(|first| first.column == 0 && first.bottom == 0);
+    first_is_good
+        && blocks.iter().all(Block::is_well_formed)
+        && blocks.windows(2).all(|pair| pair[1].may_follow(&pair[0]))
+}
