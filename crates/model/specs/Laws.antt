@@ -1,1 +1,2 @@
 -- What is proved of document 01's definitions.
+pub mod Bounded

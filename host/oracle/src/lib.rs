@@ -12,7 +12,7 @@
 //! - [`layout`], [`record`], [`sound`]: the record's bytes, written and judged;
 //! - [`calls`], [`history`]: the calls on byte strings, and lists of calls;
 //! - [`line`](mod@line), [`sheet`](mod@sheet): the line reader and the sheet program;
-//! - [`rng`], [`arbitrary`], [`arbitrary_sheet`]: random cards for comparisons.
+//! - [`rng`], [`arbitrary`]: random cards for comparisons.
 //!
 //! ```
 //! use oracle::{calls, layout::RECORD_BYTES};
@@ -29,7 +29,6 @@
 #![forbid(unsafe_code)]
 
 pub mod arbitrary;
-pub mod arbitrary_sheet;
 pub mod book;
 pub mod calls;
 pub mod cells;

@@ -2,9 +2,7 @@
 
 use crate::calls;
 use crate::layout::RECORD_BYTES;
-use crate::line::{
-    lines, read_call, read_device, read_names, LineCall, CALL_NAMES, DEVICE_NAMES,
-};
+use crate::line::{lines, read_call, read_device, read_names, LineCall, CALL_NAMES, DEVICE_NAMES};
 use crate::listing::{read_ranges, Range, OUTPUT_BYTES};
 use crate::refusal::Refusal;
 use crate::task::{Block, BLOCK_BYTES, MAX_BLOCKS};
@@ -103,8 +101,7 @@ impl Card<'_> {
             }) => {
                 let (number, column) = (u32::from(number), u32::from(column));
                 let bottom = i32::from(bottom);
-                let answer =
-                    calls::place(&mut self.record, &self.draft, number, column, bottom);
+                let answer = calls::place(&mut self.record, &self.draft, number, column, bottom);
                 self.printed.answer(line, answer);
             }
             Ok(LineCall::Release { number }) => {
