@@ -1,2 +1,6 @@
 -- What is proved of document 01's definitions.
 pub mod Bounded
+pub mod Columns
+pub mod Tasks
+pub mod Fits
+pub mod Steps
