@@ -1,2 +1,4 @@
 -- What is proved of document 01's definitions.
 pub mod Bounded
+pub mod Parts
+pub mod Slots
