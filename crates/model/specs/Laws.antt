@@ -2,3 +2,4 @@
 pub mod Bounded
 pub mod Parts
 pub mod Slots
+pub mod Record
