@@ -3,3 +3,6 @@ pub mod Bounded
 pub mod Parts
 pub mod Slots
 pub mod Record
+pub mod Entries
+pub mod ColumnPart
+pub mod Plain
