@@ -6,3 +6,7 @@ pub mod Record
 pub mod Entries
 pub mod ColumnPart
 pub mod Plain
+pub mod Columns
+pub mod Tasks
+pub mod Fits
+pub mod Steps

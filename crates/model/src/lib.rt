@@ -8,28 +8,48 @@ ghost use Rattle.model.specs.Kinds.{number-of, kind-of};
 
 // The limits of a device, a task and a book.
 pub const MAX_ROWS: u32 = 128;
+
 pub const MAX_COLUMNS: usize = 64;
+
 pub const MAX_BLOCKS: usize = 32;
+
 pub const MAX_RUNNING: usize = 64;
+
 pub const MAX_INTERVALS: usize = 64;
+
 pub const MAX_NUMBER: u32 = 65535;
+
 pub const REACH: u32 = 256;
 
 // Lengths and offsets in bytes.
 pub const RECORD_SIZE: usize = 29188;
+
 pub const COLUMNS_AT: usize = 2;
+
 pub const RUNNING_AT: usize = 3;
+
 pub const KINDS_AT: usize = 4;
+
 pub const COUNTS_AT: usize = 68;
+
 pub const INTERVALS_AT: usize = 132;
+
 pub const COLUMN_SIZE: usize = 256;
+
 pub const INTERVAL_SIZE: usize = 4;
+
 pub const ENTRIES_AT: usize = 16516;
+
 pub const ENTRY_SIZE: usize = 198;
+
 pub const BLOCKS_AT: usize = 6;
+
 pub const BLOCK_SIZE: usize = 6;
+
 pub const RANGE_SIZE: usize = 6;
+
 pub const LIST_ROOM: usize = 24576;
+
 pub const COLUMN_WEIGHT: u32 = 1024;
 
 // The kind of a column: logic (CLB), memory (BRAM) or multiplier (DSP).
@@ -48,7 +68,9 @@ pub enum KindRead {
 impl Kind {
     // Heights in half rows.
     pub const C_HEIGHT: u32 = 2;
+
     pub const B_HEIGHT: u32 = 5;
+
     pub const D_HEIGHT: u32 = 5;
 
     pub fn height(self) -> u32

@@ -1,0 +1,29 @@
+-- Heights, cells and tops: what holds of them for every kind. Assumes nothing.
+use Prim.Native.Nat.{ℕ, _+_, _*_, _/_, _≤_, _<_}
+use mathlib.Core.Path.{_≡_, refl}
+use mathlib.Core.Bool.{Bool, true, false, cond}
+use mathlib.Core.List.{List}
+use native.Mathlib.Nat.{mul-div-le, mul-comm}
+use native.Mathlib.Omega.{arith}
+use lib.Dec.{eqb}
+use Rattle.runs.specs.Laws.Tests.{cond-ind}
+use Rattle.runs.specs.Intervals.{Multiple}
+use Rattle.model.specs.Columns.{height, kind-C, cells-in, top-in, Device, half-rows, kind, cells, top}
+
+-- every height is 2 or more
+pub height-two : (k : ℕ) → 2 ≤ height k
+unfolding height
+height-two k = cond-ind (λ h. 2 ≤ h) (eqb k kind-C) (λ e. omega arith) (λ e. omega arith)
+
+pub height-pos : (k : ℕ) → 1 ≤ height k
+height-pos k = omega (arith, height-two k)
+
+-- the last cell ends on the device
+pub top-le : (d : Device) (c : ℕ) → top d c ≤ half-rows d
+unfolding top top-in cells-in
+top-le d c = omega (arith, mul-div-le (half-rows d) (height (kind d c)))
+
+-- on a multiple of the height
+pub top-multiple : (d : Device) (c : ℕ) → Multiple (height (kind d c)) (top d c)
+unfolding top top-in
+top-multiple d c = (cells-in (d .rows) (kind d c), mul-comm (height (kind d c)) (cells-in (d .rows) (kind d c)))
