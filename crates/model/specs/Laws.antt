@@ -1,5 +1,11 @@
 -- What is proved of document 01's definitions.
 pub mod Bounded
+pub mod Parts
+pub mod Slots
+pub mod Record
+pub mod Entries
+pub mod ColumnPart
+pub mod Plain
 pub mod Columns
 pub mod Tasks
 pub mod Fits
