@@ -1,10 +1,10 @@
--- Document 01, "The sheet": how a line is read. A line that is read as nothing is malformed: −12. Bytes are written as numbers; the comments show
+-- Document 01, "The sheet": how a line is read, and how a line of output is printed. A line that is read as nothing is malformed: −12. Bytes are written as numbers; the comments show
 -- the letters. Assumes nothing.
-use Prim.Native.Nat.{ℕ, zero, suc, _+_, _-_, _*_}
+use Prim.Native.Nat.{ℕ, zero, suc, _+_, _-_, _*_, _/_, _%_}
 use mathlib.Core.Bool.{Bool, true, false, not, cond, _&&_, _||_}
 use mathlib.Core.Option.{Option, none, some}
 use mathlib.Core.List.{List, [], _∷_, _++_}
-use lib.Dec.{leb, eqb}
+use lib.Dec.{leb, ltb, eqb}
 use lib.IntN.{ℤ, pos, negsuc}
 use lib.Signed.{leZ}
 use lib.ListN.{length, getD}
@@ -149,3 +149,27 @@ device-line l =
     let read : Option Device = with-some (natural-field max-number (getD (fields l) 0 [])) (λ rows. with-some (kinds-field (getD (fields l) 1 [])) (λ kinds.
     some (record { rows = rows; kinds = kinds }))) in
     cond (leb (length l) max-line && eqb (length (fields l)) 2) read none
+
+-- ---- printing
+
+-- the decimal digits of n, without leading zero, for n below 10 to the power of `more` + 1
+unfoldable pub digits : ℕ → ℕ → List ℕ
+digits zero n = (48 + n) ∷ []
+digits (suc more) n = let front = digits more (n / 10) in cond (ltb n 10) ((48 + n) ∷ []) (front ++ ((48 + n % 10) ∷ []))
+
+-- a number as it is printed: ten digits are enough for every answer
+unfoldable pub shown : ℤ → List ℕ
+shown (pos n) = digits 9 n
+shown (negsuc n) = 45 ∷ digits 9 (suc n)
+
+-- "line answer column first step last"
+abbrev pub output-names : List ℕ
+output-names =
+    (108 ∷ 105 ∷ 110 ∷ 101 ∷ 32 ∷ []) ++ (97 ∷ 110 ∷ 115 ∷ 119 ∷ 101 ∷ 114 ∷ 32 ∷ []) ++ (99 ∷ 111 ∷ 108 ∷ 117 ∷ 109 ∷ 110 ∷ 32 ∷ [])
+    ++ (102 ∷ 105 ∷ 114 ∷ 115 ∷ 116 ∷ 32 ∷ []) ++ (115 ∷ 116 ∷ 101 ∷ 112 ∷ 32 ∷ []) ++ (108 ∷ 97 ∷ 115 ∷ 116 ∷ [])
+
+-- "input line, answer, and for each range its column, first, step, last, else zeros", with its newline
+unfoldable pub output-line : ℕ → ℤ → ℕ → ℕ → ℕ → ℕ → List ℕ
+output-line line answer column first step last =
+    shown (pos line) ++ (32 ∷ shown answer) ++ (32 ∷ shown (pos column)) ++ (32 ∷ shown (pos first)) ++ (32 ∷ shown (pos step))
+    ++ (32 ∷ shown (pos last)) ++ (10 ∷ [])
