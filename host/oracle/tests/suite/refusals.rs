@@ -89,18 +89,36 @@ fn new_refuses_in_order() {
     }
 }
 
-#[test]
-fn place_refuses_in_order() {
+/// A card on which task 65,535 runs, and the same card with 63 more.
+fn open_and_full() -> (Vec<u8>, Vec<u8>) {
     let one = task(&[(0, 'C', 0, 2)]);
     let mut open = card(128, "CC");
     assert_eq!(calls::place(&mut open, &one, 65_535, 0, 0), 0);
     let mut full = open.clone();
     for number in 1..=63 {
-        assert_eq!(
-            calls::place(&mut full, &one, number, 0, 2 * number as i32),
-            0
-        );
+        let bottom = 2 * number as i32;
+        assert_eq!(calls::place(&mut full, &one, number, 0, bottom), 0);
     }
+    (open, full)
+}
+
+/// Place's number, column and bottom, spoiled as the faults say.
+fn spoiled_place(faults: &[i32], variant: usize) -> (u32, u32, i32) {
+    let bad = [0, 65_535, 65_536, 65_535 + 65_536, u32::MAX];
+    let off = [(0, 0), (1, 1), (1, -2), (1, 256), (2, 0), (256, 2), (!0, 0)];
+    let (mut number, mut at) = (64, (1, 2));
+    if faults.contains(&-7) {
+        number = bad[variant % 5];
+    }
+    if faults.contains(&-10) {
+        at = off[variant % 7];
+    }
+    (number, at.0, at.1)
+}
+
+#[test]
+fn place_refuses_in_order() {
+    let (open, full) = open_and_full();
     for faults in subsets(&[-1, -2, -4, -5, -7, -8, -10]) {
         for variant in 0..9 {
             let base = if faults.contains(&-8) { &full } else { &open };
@@ -108,26 +126,7 @@ fn place_refuses_in_order() {
             spoil(&mut record, &faults, variant);
             let before = record.clone();
             let task = spoiled_task(&faults, variant / 3);
-            let bad_number = [0, 65_535, 65_536, 65_535 + 65_536, u32::MAX];
-            let number = if faults.contains(&-7) {
-                bad_number[variant % 5]
-            } else {
-                64
-            };
-            let off = [
-                (0, 0),
-                (1, 1),
-                (1, -2),
-                (1, 256),
-                (2, 0),
-                (256, 0),
-                (u32::MAX, 0),
-            ];
-            let (column, bottom) = if faults.contains(&-10) {
-                off[variant % 7]
-            } else {
-                (1, 2)
-            };
+            let (number, column, bottom) = spoiled_place(&faults, variant);
             let answer = calls::place(&mut record, &task, number, column, bottom);
             assert_eq!(answer, nearest(&faults, 0), "{faults:?}");
             assert_eq!(answer != 0, record == before, "{faults:?}");
