@@ -11,3 +11,9 @@ pub mod Signed
 pub mod Tasks
 pub mod Fits
 pub mod Steps
+pub mod Homes
+pub mod Gaps
+pub mod Pieces
+pub mod Raised
+pub mod Climb
+pub mod Choice
