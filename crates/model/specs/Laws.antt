@@ -17,3 +17,6 @@ pub mod Pieces
 pub mod Raised
 pub mod Climb
 pub mod Choice
+pub mod Ends
+pub mod NoPosition
+pub mod After
