@@ -4,3 +4,4 @@ pub mod Columns
 pub mod Tasks
 pub mod Fits
 pub mod Steps
+pub mod Limits
