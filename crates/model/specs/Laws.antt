@@ -5,3 +5,4 @@ pub mod Tasks
 pub mod Fits
 pub mod Steps
 pub mod Limits
+pub mod Cells
