@@ -6,3 +6,4 @@ pub mod Fits
 pub mod Steps
 pub mod Limits
 pub mod Cells
+pub mod Split

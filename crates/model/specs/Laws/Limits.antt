@@ -41,6 +41,14 @@ rising-above m [] r e i = absurd i
 rising-above m (f ∷ b) r e (inl q) = omega (arith, r .0, ap (λ (x : Running). x .number) q)
 rising-above m (f ∷ b) r e (inr i) = omega (arith, r .0, rising-above (f .number) b (r .1) e i)
 
+-- one task to a number
+pub one-number : (m : ℕ) (b : Book) → Rising m b → (e f : Running) → In e b → In f b → e .number ≡ f .number → e ≡ f
+one-number m [] r e f i j n = absurd i
+one-number m (g ∷ b) r e f (inl p) (inl q) n = p ∙ sym q
+one-number m (g ∷ b) r e f (inl p) (inr j) n = absurd (omega (arith, ap (λ (x : Running). x .number) p, rising-above (g .number) b (r .1) f j))
+one-number m (g ∷ b) r e f (inr i) (inl q) n = absurd (omega (arith, ap (λ (x : Running). x .number) q, rising-above (g .number) b (r .1) e i))
+one-number m (g ∷ b) r e f (inr i) (inr j) n = one-number (g .number) b (r .1) e f i j n
+
 -- ---- no cell shared
 
 -- e and f hold no cell of the device both
