@@ -7,3 +7,4 @@ pub mod Steps
 pub mod Limits
 pub mod Cells
 pub mod Split
+pub mod Listing
