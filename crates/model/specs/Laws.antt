@@ -8,3 +8,6 @@ pub mod Limits
 pub mod Cells
 pub mod Split
 pub mod Listing
+pub mod Kept
+pub mod Same
+pub mod Freed

@@ -2,7 +2,7 @@
 use Prim.Native.Nat.{ℕ, _+_, _-_, _≤_, _<_}
 use mathlib.Core.Path.{_≡_, refl, sym, ap, _∙_}
 use mathlib.Core.Logic.{_⊎_, inl, inr, _↔_}
-use mathlib.Core.Bool.{Bool, true, false, not, _&&_, _||_}
+use mathlib.Core.Bool.{Bool, true, false, not, _||_, true≢false}
 use mathlib.Core.List.{List, [], _∷_}
 use native.Mathlib.Omega.{arith}
 use lib.Dec.{ltb, eqb}
@@ -18,6 +18,10 @@ use Rattle.model.specs.Laws.Bounded.{and3-to, true-or-false, same-test, 
 use Rattle.model.specs.Laws.Fits.{Fitting, fits-to, fits-of}
 use Rattle.model.specs.Laws.Limits.{Rising, one-number}
 use Rattle.model.specs.Laws.Cells.{covered-to, covered-of}
+
+pub neither : (a b : Bool) → (a || b) ≡ false → (a ≡ false) × (b ≡ false)
+neither true b e = absurd (true≢false e)
+neither false b e = (refl, e)
 
 -- ---- fitting
 
