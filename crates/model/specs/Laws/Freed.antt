@@ -1,10 +1,10 @@
 -- What is free once a task is entered, and once it is taken out: what a placement cuts from the free intervals, and what a release joins to them.
 -- Assumes nothing.
-use Prim.Native.Nat.{ℕ, _+_, _*_, _/_, _%_, _<_}
-use mathlib.Core.Path.{_≡_, refl, sym, ap, _∙_}
+use Prim.Native.Nat.{ℕ, _/_, _%_, _<_}
+use mathlib.Core.Path.{_≡_, sym, ap, _∙_}
 use mathlib.Core.Logic.{_⊎_, inl, inr, _↔_}
-use mathlib.Core.Bool.{Bool, true, false, _||_}
-use mathlib.Core.List.{List, []}
+use mathlib.Core.Bool.{true, false, _||_}
+use mathlib.Core.List.{[]}
 use native.Mathlib.Nat.{div-add-mod, mod-lt}
 use Rattle.model.specs.Columns.{Device, columns, height, kind, top}
 use Rattle.model.specs.Book.{Running, Book, covered, standing, held, free, holds-cell}
@@ -12,7 +12,7 @@ use Rattle.model.specs.Sound.{within}
 use Rattle.model.specs.Calls.{insert, without}
 use Rattle.model.specs.Laws.Bounded.{In, any-in-to, is-false, true-or-false}
 use Rattle.model.specs.Laws.Columns.{height-pos}
-use Rattle.model.specs.Laws.Limits.{Entry, limits-to}
+use Rattle.model.specs.Laws.Limits.{limits-to}
 use Rattle.model.specs.Laws.Cells.{covered-holds}
 use Rattle.model.specs.Laws.Split.{neither, free-to, free-of, covered-free, without-to, held-insert, held-without}
 use Rattle.model.specs.Laws.Kept.{apart-cells}

@@ -1,8 +1,8 @@
 -- Every call on the book keeps the device and the book within document 01's limits; and no two running tasks hold one cell. Assumes nothing.
-use Prim.Native.Nat.{ℕ, zero, suc, _+_, _*_, _≤_, _<_}
+use Prim.Native.Nat.{ℕ, suc, _+_, _*_, _≤_, _<_}
 use mathlib.Core.Path.{_≡_, refl, sym, ap, _∙_}
-use mathlib.Core.Logic.{_⊎_, inl, inr}
-use mathlib.Core.Bool.{Bool, true, false, not, cond, _||_, true≢false}
+use mathlib.Core.Logic.{inl, inr}
+use mathlib.Core.Bool.{Bool, true, false, not, cond, _||_}
 use mathlib.Core.Option.{Option, none, some}
 use mathlib.Core.List.{List, [], _∷_}
 use native.Mathlib.Nat.{lt-of-mul-lt-mul-left}
@@ -10,16 +10,16 @@ use native.Mathlib.Omega.{arith}
 use lib.Dec.{leb, ltb, eqb}
 use lib.IntN.{ℤ, pos, negsuc}
 use lib.ListN.{length}
-use borrow.Author.Tests.{eq-eqb, not-true, not-false}
+use borrow.Author.Tests.{eq-eqb, not-false}
 use Rattle.runs.specs.Laws.Tests.{tests, cond-ind}
 use Rattle.model.specs.Limits.{max-running, max-number}
 use Rattle.model.specs.Columns.{Device, columns, height, kind, top-in, cells, top, device-ok}
 use Rattle.model.specs.Tasks.{sized, well-formed}
 use Rattle.model.specs.Book.{Running, Book, covered, standing, held, fits, fits-at, holds-cell}
 use Rattle.model.specs.Sound.{number-ok, within}
-use Rattle.model.specs.Calls.{Call, list, choose, place, release, Outcome, lent, refused, refusals, runs-in, insert, without, natural, running, done, unless, on-book}
+use Rattle.model.specs.Calls.{Call, list, choose, place, release, lent, refused, refusals, runs-in, insert, without, natural, running, done, unless, on-book}
 use Rattle.model.specs.Laws.Bounded.{and-to, any-to, In, any-in-of, clash}
-use Rattle.model.specs.Laws.Limits.{Rising, rising-above, Parted, AllParted, Entry, Limits, limits-to, within-device, within-of}
+use Rattle.model.specs.Laws.Limits.{Rising, Parted, Entry, limits-to, within-device, within-of}
 use Rattle.model.specs.Laws.Cells.{covered-holds}
 use Rattle.model.specs.Laws.Split.{free-to, covered-free, fits-split, neither, insert-to, without-to}
 

@@ -11,17 +11,17 @@ use lib.ListN.{length, length-append, length-map}
 use Rattle.runs.specs.Laws.Tests.{tests, cond-ind, lt-or-ge}
 use Rattle.runs.specs.Runs.{Run, run, Steps, From, push, runs}
 use Rattle.runs.specs.Laws.Runs.{InStep, runs-lists, runs-count}
-use Rattle.model.specs.Limits.{max-rows, max-columns, max-intervals, list-room, range-size}
+use Rattle.model.specs.Limits.{max-rows, max-intervals, list-room, range-size}
 use Rattle.model.specs.Bounded.{join-below, list-below, those-below, join-in}
 use Rattle.model.specs.Columns.{Device, columns, half-rows}
-use Rattle.model.specs.Tasks.{blocks, step, sized, well-formed}
+use Rattle.model.specs.Tasks.{step, sized}
 use Rattle.model.specs.Book.{Book, fits}
-use Rattle.model.specs.Listing.{Range, range-of, ranges, Position, position, named, fitting}
+use Rattle.model.specs.Listing.{range-of, ranges, Position, position, named, fitting}
 use Rattle.model.specs.Sound.{within}
-use Rattle.model.specs.Laws.Bounded.{last-or, In}
-use Rattle.model.specs.Laws.Tasks.{Sized, sized-to}
+use Rattle.model.specs.Laws.Bounded.{In}
+use Rattle.model.specs.Laws.Tasks.{sized-to}
 use Rattle.model.specs.Laws.Steps.{fits-steps, step-two}
-use Rattle.model.specs.Laws.Limits.{Limits, limits-to}
+use Rattle.model.specs.Laws.Limits.{limits-to}
 
 -- ---- lists that are joined
 
@@ -104,7 +104,7 @@ module _ (s : ℕ) (p : 1 ≤ s) where
 few-runs : (s : ℕ) (f : ℕ → Bool) (n : ℕ) → 2 ≤ s → InStep s f → n ≤ 2 * max-rows → length (runs s f n) ≤ max-intervals
 few-runs s f n p i l =
     let no : ¬ (max-intervals < length (runs s f n)) =
-        λ m. omega (arith, mul-le-mul-left {m = suc max-intervals} {n = length (runs s f n)} (2 * s) m, runs-count s f i n) in
+    λ m. omega (arith, mul-le-mul-left {m = suc max-intervals} {n = length (runs s f n)} (2 * s) m, runs-count s f i n) in
     omega arith
 
 -- ---- listings

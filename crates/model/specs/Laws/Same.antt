@@ -1,16 +1,16 @@
 -- Two books by rising number with the same tasks are one book, so their records are one record. Assumes nothing.
-use Prim.Native.Nat.{ℕ, _<_}
+use Prim.Native.Nat.{ℕ}
 use mathlib.Core.Path.{_≡_, refl, sym, ap, ap₂, _∙_}
-use mathlib.Core.Logic.{_⊎_, inl, inr, _↔_}
+use mathlib.Core.Logic.{inl, inr, _↔_}
 use mathlib.Core.Bool.{true}
-use mathlib.Core.List.{List, [], _∷_}
+use mathlib.Core.List.{[], _∷_}
 use native.Mathlib.Omega.{arith}
 use Rattle.model.specs.Columns.{Device}
 use Rattle.model.specs.Book.{Running, Book}
 use Rattle.model.specs.Record.{record-of}
 use Rattle.model.specs.Sound.{within}
 use Rattle.model.specs.Laws.Bounded.{In}
-use Rattle.model.specs.Laws.Limits.{Rising, rising-above, Limits, limits-to}
+use Rattle.model.specs.Laws.Limits.{Rising, rising-above, limits-to}
 
 module _ (m n : ℕ) (e f : Running) (a b : Book) (r : Rising m (e ∷ a)) (s : Rising n (f ∷ b)) where
   -- one of a book's tasks has its first number, or one above it
