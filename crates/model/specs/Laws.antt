@@ -20,3 +20,10 @@ pub mod Choice
 pub mod Ends
 pub mod NoPosition
 pub mod After
+pub mod Limits
+pub mod Cells
+pub mod Split
+pub mod Listing
+pub mod Kept
+pub mod Same
+pub mod Freed
