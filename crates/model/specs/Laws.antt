@@ -10,3 +10,5 @@ pub mod Columns
 pub mod Tasks
 pub mod Fits
 pub mod Steps
+pub mod Within
+pub mod Clauses

@@ -1,21 +1,19 @@
 -- The entries of a record when a task is put into the book and when one is taken out. Assumes nothing.
-use Prim.Native.Nat.{ℕ, zero, suc, _-_, _*_, _%_, _≤_, _<_}
+use Prim.Native.Nat.{ℕ, zero, suc, _-_, _≤_, _<_}
 use mathlib.Core.Path.{_≡_, refl, sym, ap, _∙_}
-use mathlib.Core.Bool.{Bool, true, false, not, cond, _||_}
+use mathlib.Core.Bool.{Bool, true, false, cond, _||_}
 use mathlib.Core.List.{List, [], _∷_, _++_, map}
 use native.Mathlib.Omega.{arith}
-use lib.Dec.{eqb, ltb, leb}
-use borrow.Author.Tests.{eq-eqb, eqb-true, leb-true}
+use lib.Dec.{eqb, ltb}
+use borrow.Author.Tests.{eq-eqb}
 use lib.ListN.{length, getD, set, take, drop, replicate, length-map}
 use lib.Seq.{split-at}
-use Rattle.model.specs.Limits.{max-running, max-blocks, block-size, running-at, entry-size}
+use Rattle.model.specs.Limits.{max-running, running-at, entry-size}
 use Rattle.model.specs.Bounded.{any-in}
 use Rattle.model.specs.Columns.{Device}
-use Rattle.model.specs.Tasks.{blocks, sized}
 use Rattle.model.specs.Book.{Running, Book}
 use Rattle.model.specs.Record.{bytes16, padded, entry-bytes, head-bytes, entry-part}
 use Rattle.model.specs.Calls.{insert, without, runs-in}
-use Rattle.model.specs.Laws.Bounded.{and3-to, clash}
 use Rattle.model.specs.Laws.Parts.{changed}
 use Rattle.model.specs.Laws.Slots.{raised, lowered, slot-insert, slot-remove}
 use Rattle.model.specs.Laws.Record.{Reads, reads-head, reads-cong, no-entry}
@@ -110,13 +108,3 @@ pub reads-book : (d : Device) (b b′ : Book) (v : ℕ) {r : List ℕ} {kinds co
     → v ≡ length b′ → ((j : ℕ) → j < max-running → entries j ≡ entry-part b′ j) → Reads (set r running-at v) (head-bytes d b′) kinds counts columns (entry-part b′)
 unfolding head-bytes bytes16
 reads-book d b b′ v x e h = reads-cong (reads-head x running-at v (omega arith)) (rw e) (λ c q. refl) (λ c q. refl) (λ c q. refl) h
-
--- a task of a task's size fills whole blocks, at most 32
-pub whole-task : (t : List ℕ) → sized t ≡ true → (length t ≡ block-size * blocks t) × (1 ≤ blocks t) × (blocks t ≤ max-blocks)
-unfolding sized blocks
-whole-task t h =
-    let (some, short, whole) = and3-to (not (eqb (length t) 0)) (leb (length t) (block-size * max-blocks)) (eqb (length t % block-size) 0) h in
-    let six : length t % block-size ≡ 0 = eqb-true (length t % block-size) 0 whole in
-    let few : length t ≤ block-size * max-blocks = leb-true (length t) (block-size * max-blocks) short in
-    let one : ¬ (length t ≡ 0) = λ e. clash some (ap not (eq-eqb (length t) 0 e)) in
-    (omega arith, omega arith, omega arith)

@@ -176,6 +176,9 @@ module _ {ℓ} {A : Type ℓ} where
 
   -- ---- bytes: pieces of one element
 
+  pub length-list : (f : ℕ → A) (n : ℕ) → length (list-below n f) ≡ n
+  length-list f n = omega (arith, length-join (λ i. f i ∷ []) 1 n (λ i q. refl))
+
   pub getD-list : (f : ℕ → A) (n c : ℕ) (d : A) → c < n → getD (list-below n f) c d ≡ f c
   getD-list f n c d q =
       let e : 1 * c + 0 ≡ c = omega arith in
