@@ -12,3 +12,4 @@ pub mod Fits
 pub mod Steps
 pub mod Within
 pub mod Clauses
+pub mod Sound
