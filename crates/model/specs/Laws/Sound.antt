@@ -115,9 +115,9 @@ column-again r c B l h few z =
         part-add r a 2 2
         ∙ ap₂ _++_ (sym (word-again r a B (omega arith))) (sym (word-again r (a + 2) B (omega arith)))
         ∙ sym (
-          slot-map interval-size interval-bytes (listed-intervals r c) i (said r c i) (omega (arith, count-listed r c))
-          ∙ ap (λ (x : Interval). padded interval-size (interval-bytes x)) (getD-list (said r c) (count-of r c) i (said r c i) p)
-          ∙ padded-full interval-size (interval-bytes (said r c i)) refl
+        slot-map interval-size interval-bytes (listed-intervals r c) i (said r c i) (omega (arith, count-listed r c))
+        ∙ ap (λ (x : Interval). padded interval-size (interval-bytes x)) (getD-list (said r c) (count-of r c) i (said r c i) p)
+        ∙ padded-full interval-size (interval-bytes (said r c i)) refl
         )
     place i q (inr p) =
         zero-part r (column-at c + interval-size * i) interval-size (omega arith) (λ k a e. z k (omega arith) (omega arith))
@@ -169,10 +169,10 @@ module _ (r : List ℕ) (x : Clauses r) where
             let p = part r (entry-at j) entry-size in
             let n = byte 3 (omega arith) in
             sym (
-              slot-map entry-size entry-bytes (book-of r) j no-entry (omega (arith, running-said r))
-              ∙ ap (λ (e : Running). padded entry-size (entry-bytes e)) (getD-list (λ j. running-of (part r (entry-at j) entry-size)) (getD r running-at 0) j no-entry h)
-              ∙ entry-again p (bytes-part r (entry-at j) entry-size room B) (length-part r (entry-at j) entry-size room) (omega (arith, x .few-blocks j h))
-              (λ i a e. byte i e ∙ x .no-block j q (entry-at j + i) (rw (lt-ltb j (getD r running-at 0) h) (omega arith)) (omega arith))
+            slot-map entry-size entry-bytes (book-of r) j no-entry (omega (arith, running-said r))
+            ∙ ap (λ (e : Running). padded entry-size (entry-bytes e)) (getD-list (λ j. running-of (part r (entry-at j) entry-size)) (getD r running-at 0) j no-entry h)
+            ∙ entry-again p (bytes-part r (entry-at j) entry-size room B) (length-part r (entry-at j) entry-size room) (omega (arith, x .few-blocks j h))
+            (λ i a e. byte i e ∙ x .no-block j q (entry-at j + i) (rw (lt-ltb j (getD r running-at 0) h) (omega arith)) (omega arith))
             )
         go (inr h) =
             zero-part r (entry-at j) entry-size room (λ i a e. x .no-block j q i (rw (le-ltb j (getD r running-at 0) h) (omega arith)) e)
