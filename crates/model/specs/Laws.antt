@@ -7,6 +7,7 @@ pub mod Entries
 pub mod ColumnPart
 pub mod Plain
 pub mod Columns
+pub mod Signed
 pub mod Tasks
 pub mod Fits
 pub mod Steps
