@@ -67,6 +67,10 @@ module _ {ℓ} {A : Type ℓ} where
   unfolding part
   getD-part r at n i d h = rw (getD-take, getD-drop)
 
+  -- an element of r, in a part of it
+  pub part-byte : (r : List A) (at n i : ℕ) (d : A) → at ≤ i → i < at + n → getD r i d ≡ getD (part r at n) (i - at) d
+  part-byte r at n i d h q = let e : i ≡ at + (i - at) = omega arith in ap (λ k. getD r k d) e ∙ sym (getD-part r at n (i - at) d (omega arith))
+
   drop-take : (i n : ℕ) (l : List A) → drop i (take n l) ≡ take (n - i) (drop i l)
   drop-take zero n l = rw sub-zero
   drop-take (suc i) zero l = rw zero-sub

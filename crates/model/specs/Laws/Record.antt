@@ -296,13 +296,6 @@ image-cong d b is js h =
 
 -- ---- the record
 
--- the limits of the layout
-pub record Room (d : Device) (b : Book) : Type 0 where
-  pub rows-fit : d .rows < words
-  pub columns-fit : columns d ≤ max-columns
-  pub book-fits : length b ≤ max-running
-  pub entries-fit : (j : ℕ) → j < length b → Writable (getD b j no-entry)
-
 pub record-shows : (d : Device) (b : Book) → Shows (record-of d b) d b (intervals d b)
 unfolding record-of
 record-shows d b = image-shows d b (intervals d b)
@@ -335,10 +328,3 @@ module _ (d : Device) (b : Book) where
 
   pub record-entry-out : (j : ℕ) → j < max-running → length b ≤ j → part (record-of d b) (entry-at j) entry-size ≡ replicate entry-size 0
   record-entry-out j q h = record-shows d b .entry-is j q ∙ slot-out entry-size (map entry-bytes b) j (omega (arith, length-map b entry-bytes))
-
--- read back
-pub device-of-record : (d : Device) (b : Book) → Room d b → device-of (record-of d b) ≡ d
-device-of-record d b w = device-back d b (record-shows d b) (w .rows-fit) (w .columns-fit)
-
-pub book-of-record : (d : Device) (b : Book) → Room d b → book-of (record-of d b) ≡ b
-book-of-record d b w = book-back d b (record-shows d b) (w .book-fits) (w .entries-fit)
