@@ -1,7 +1,7 @@
 -- The clauses of `sound`, each as a fact, and back. Assumes nothing.
 use Prim.Native.Nat.{ℕ, _+_, _-_, _*_, _≤_, _<_}
-use mathlib.Core.Path.{_≡_, refl, sym, ap, ap₂, _∙_}
-use mathlib.Core.Bool.{Bool, true, false, _&&_, false≢true}
+use mathlib.Core.Path.{_≡_, refl, ap₂}
+use mathlib.Core.Bool.{Bool, true, _&&_, false≢true}
 use mathlib.Core.List.{List, [], _∷_}
 use native.Mathlib.Omega.{arith}
 use lib.Dec.{leb, eqb}
@@ -20,6 +20,7 @@ use Rattle.model.specs.Laws.Bounded.{and-to, and-of, and3-to, and4-to, a
 abbrev pub Zero : List ℕ → ℕ → ℕ → Type 0
 Zero r a e = (i : ℕ) → a ≤ i → i < e → getD r i 0 ≡ 0
 
+-- the test, and what it says
 pub zeros-to : (r : List ℕ) (a e : ℕ) → zeros r a e ≡ true → Zero r a e
 unfolding zeros
 zeros-to r a e h i p q =
@@ -30,6 +31,7 @@ pub zeros-of : (r : List ℕ) (a e : ℕ) → Zero r a e → zeros r a e ≡ tru
 unfolding zeros
 zeros-of r a e h = all-of (e - a) (λ i. eqb (getD r (a + i) 0) 0) (λ i q. eq-eqb (getD r (a + i) 0) 0 (h (a + i) (omega arith) (omega arith)))
 
+-- lists that the test calls the same are one
 pub same-to : (L M : List Interval) → same-intervals L M ≡ true → L ≡ M
 unfolding same-intervals
 same-to [] [] h = refl
@@ -74,6 +76,7 @@ module _ (r : List ℕ) where
   block-rest : ℕ → Bool
   block-rest j = zeros r (entry-at j + used r j) (entry-at j + entry-size)
 
+  -- THEOREM: a sound record has each of them
   pub clauses-to : sound r ≡ true → Clauses r
   unfolding sound counts-ok intervals-ok unused-ok blocks-ok columns-ok runs-ok interval-rest block-rest
   clauses-to h =
@@ -96,6 +99,7 @@ module _ (r : List ℕ) where
         no-block = λ j q. zeros-to r (entry-at j + used r j) (entry-at j + entry-size) (all-to max-running block-rest zb j q);
       }
 
+  -- THEOREM: and what has them all is sound
   pub clauses-of : Clauses r → sound r ≡ true
   unfolding sound counts-ok intervals-ok unused-ok blocks-ok columns-ok runs-ok interval-rest block-rest
   clauses-of x =

@@ -23,6 +23,7 @@ unfoldable pub place : ℕ → Book → ℕ
 place n [] = 0
 place n (f ∷ b) = cond (ltb n (f .number)) 0 (suc (place n b))
 
+-- an entry put in stands between those below its place and the others
 pub insert-split : (e : Running) (b : Book) → insert e b ≡ take (place (e .number) b) b ++ e ∷ drop (place (e .number) b) b
 unfolding insert place
 insert-split e [] = refl
@@ -33,10 +34,11 @@ insert-split e (f ∷ b) = go (ltb (e .number) (f .number)) (insert-split e b)
     go true ih = refl
     go false ih = ap (λ l. f ∷ l) ih
 
-pub or-none : (a b : Bool) → (a || b) ≡ false → (a ≡ false) × (b ≡ false)
+or-none : (a b : Bool) → (a || b) ≡ false → (a ≡ false) × (b ≡ false)
 or-none true b h = (h, cc)
 or-none false b h = (refl, h)
 
+-- a number that does not run
 pub without-none : (n : ℕ) (b : Book) → runs-in b n ≡ false → without n b ≡ b
 unfolding without runs-in any-in
 without-none n [] h = refl
@@ -44,6 +46,7 @@ without-none n (f ∷ b) h =
     let o = or-none (eqb (f .number) n) (runs-in b n) h in
     rw (o .0) (ap (λ l. f ∷ l) (without-none n b (o .1)))
 
+-- THEOREM: the one entry of that number is taken out, and the others stay in their order
 pub without-split : (n : ℕ) (u v : Book) (e : Running) → e .number ≡ n → runs-in u n ≡ false → runs-in v n ≡ false → without n (u ++ e ∷ v) ≡ u ++ v
 unfolding without runs-in any-in
 without-split n [] v e p hu hv = rw (eq-eqb (e .number) n p) (without-none n v hv)
@@ -51,10 +54,12 @@ without-split n (f ∷ u) v e p hu hv =
     let o = or-none (eqb (f .number) n) (runs-in u n) hu in
     rw (o .0) (ap (λ l. f ∷ l) (without-split n u v e p (o .1) hv))
 
+-- the same, by the place of the entry
 pub without-at : (n : ℕ) (b : Book) (k : ℕ) → k < length b → getD b k no-entry .number ≡ n → runs-in (take k b) n ≡ false → runs-in (drop (suc k) b) n ≡ false
     → without n b ≡ take k b ++ drop (suc k) b
 without-at n b k q p hu hv = ap (without n) (split-at b k no-entry q) ∙ without-split n (take k b) (drop (suc k) b) (getD b k no-entry) p hu hv
 
+-- one entry more
 pub length-insert : (e : Running) (b : Book) → length (insert e b) ≡ suc (length b)
 unfolding insert
 length-insert e [] = refl
@@ -64,6 +69,7 @@ length-insert e (f ∷ b) = go (ltb (e .number) (f .number)) (length-insert e b)
     go true h = refl
     go false h = ap suc h
 
+-- the place is in the book, or at its end
 pub place-le : (n : ℕ) (b : Book) → place n b ≤ length b
 unfolding place
 place-le n [] = omega arith

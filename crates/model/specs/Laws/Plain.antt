@@ -49,9 +49,11 @@ module _ (f : ℕ → List ℕ) (k m : ℕ) (rest : (i : ℕ) → m ≤ i → f 
       let g : (m + j) * k ≡ length (join-below m f) + j * k = omega (arith, length-join f k m size) in
       join-rest f k m j rest ∙ sym (rw g (padded-by (join-below m f) (j * k)))
 
+  -- n pieces, zeros from the m-th on, are m pieces filled up
   pub join-plain : (n : ℕ) → m ≤ n → join-below n f ≡ padded (n * k) (join-below m f)
   join-plain n h = let e : m + (n - m) ≡ n = omega arith in rw e at (plain-by (n - m))
 
+-- places for pieces of one size are the pieces filled up
 pub slots-plain : (n k : ℕ) (ps : List (List ℕ)) → ((i : ℕ) → i < length ps → length (getD ps i []) ≡ k) → length ps ≤ n → slots n k ps ≡ padded (n * k) (joined ps)
 unfolding slots slot
 slots-plain n k ps size few =
@@ -85,6 +87,7 @@ entries-plain b few =
     ])
     ∙ slots-plain max-running entry-size (map whole b) (λ i q. getD-map whole b entry-size i (λ e. length-padded entry-size (entry-bytes e)) (omega arith)) (omega arith)
 
+-- THEOREM: within the limits nothing is cut
 pub record-plain : (d : Device) (b : Book) → within d b ≡ true
     → record-of d b
     ≡ bytes16 (d .rows) ++ (columns d ∷ length b ∷ [])

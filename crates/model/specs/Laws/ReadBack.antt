@@ -8,7 +8,7 @@ use mathlib.Core.List.{List, [], _∷_, map}
 use native.Mathlib.Omega.{arith}
 use lib.ListN.{length, getD, length-map, getD-replicate, List·getD-eq-default}
 use Rattle.runs.specs.Intervals.{Interval, interval}
-use Rattle.model.specs.Limits.{max-rows, max-columns, max-running, max-intervals, block-size, column-size, interval-size, entry-size, blocks-at}
+use Rattle.model.specs.Limits.{max-rows, max-columns, max-intervals, block-size, column-size, interval-size, entry-size, blocks-at}
 use Rattle.model.specs.Columns.{Device, columns, half-rows}
 use Rattle.model.specs.Tasks.{word, blocks}
 use Rattle.model.specs.Book.{Running, Book, intervals}
@@ -71,6 +71,7 @@ module _ (d : Device) (b : Book) (w : within d b ≡ true) where
   pub entry-in : (j : ℕ) → j < length b → Entry d (getD b j no-entry)
   entry-in j q = limits-to d b w .entries (getD b j no-entry) (getD-in b j no-entry q)
 
+  -- it fills whole blocks
   pub task-sized : (j : ℕ) → j < length b → Sized (getD b j no-entry .task)
   task-sized j q = sized-to (getD b j no-entry .task) (entry-in j q .sized)
 

@@ -1,7 +1,7 @@
 -- THEOREM: a byte string is sound just where the device and the book that it says are within the limits, and it is the record of these.
 -- `sound` is document 01's sentence, clause by clause; this says that the sentence leaves nothing open. Assumes nothing.
-use Prim.Native.Nat.{ℕ, _+_, _-_, _*_, _≤_, _<_}
-use mathlib.Core.Path.{_≡_, refl, sym, ap, ap₂, _∙_}
+use Prim.Native.Nat.{ℕ, _+_, _-_, _≤_, _<_}
+use mathlib.Core.Path.{_≡_, sym, ap, ap₂, _∙_}
 use mathlib.Core.Logic.{_⊎_, inl, inr, _↔_}
 use mathlib.Core.Bool.{true}
 use mathlib.Core.List.{List, [], _∷_, _++_, map}
@@ -9,7 +9,7 @@ use native.Mathlib.Omega.{arith}
 use borrow.Author.Tests.{lt-ltb, le-ltb}
 use lib.ListN.{length, getD, replicate, length-map, getD-replicate}
 use Rattle.runs.specs.Laws.Tests.{lt-or-ge}
-use Rattle.model.specs.Limits.{max-columns, max-running, max-intervals, record-size, columns-at, running-at, head-size, kinds-at, counts-at, column-size, entry-size}
+use Rattle.model.specs.Limits.{max-columns, max-running, record-size, columns-at, running-at, head-size, kinds-at, counts-at, column-size, entry-size}
 use Rattle.model.specs.Bounded.{join-below}
 use Rattle.model.specs.Columns.{Device, columns, kind}
 use Rattle.model.specs.Book.{Running, Book, intervals}
@@ -26,6 +26,7 @@ use Rattle.model.specs.Laws.ReadBack.{column-rest, entry-rest, task-size
 
 -- ---- what a sound record says is what it is the record of
 
+-- the columns and the running tasks that r says, by its bytes
 pub columns-said : (r : List ℕ) → columns (device-of r) ≡ getD r columns-at 0
 unfolding columns device-of
 columns-said r = length-list (λ c. getD r (kinds-at + c) 0) (getD r columns-at 0)
@@ -149,6 +150,7 @@ module _ (d : Device) (b : Book) (w : within d b ≡ true) where
 
 -- ---- the theorem
 
+-- a sound record has 29,188 bytes, and says what is within the limits
 pub sound-length : (r : List ℕ) → sound r ≡ true → length r ≡ record-size
 sound-length r s = clauses-to r s .size
 
