@@ -1,31 +1,30 @@
 -- Blocks are whole cells: all half rows of a cell are held or free alike, so a maximal run of free half rows is a maximal run of free cells, and a
 -- column has few of them. Assumes nothing.
-use Prim.Native.Nat.{ℕ, zero, suc, _+_, _-_, _*_, _/_, _%_, _≤_, _<_}
+use Prim.Native.Nat.{ℕ, suc, _+_, _-_, _*_, _/_, _%_, _≤_, _<_}
 use mathlib.Core.Path.{_≡_, refl, sym, ap, ap₂, _∙_}
-use mathlib.Core.Logic.{_⊎_, inl, inr, _↔_}
-use mathlib.Core.Bool.{Bool, true, false, not, _&&_, _||_}
+use mathlib.Core.Logic.{inl, inr}
+use mathlib.Core.Bool.{Bool, true, not, _&&_, _||_}
 use mathlib.Core.List.{List, [], _∷_, map}
 use native.Mathlib.Nat.{mul-div-le, div-add-mod, div-add-mod', mod-lt, div-lt-iff-lt-mul, le-div-iff-mul-le, mul-le-mul-left, mul-le-mul-right, mul-lt-mul-of-pos-left, lt-of-mul-lt-mul-left}
 use native.Mathlib.Omega.{arith}
 use lib.Dec.{leb, ltb, eqb}
 use lib.ListN.{length, length-map}
 use borrow.Author.Tests.{le-leb, lt-ltb, eq-eqb}
-use Rattle.runs.specs.Laws.Tests.{tests, lt-or-ge}
-use Rattle.runs.specs.Runs.{runs}
+use Rattle.runs.specs.Laws.Tests.{tests}
 use Rattle.runs.specs.Laws.Runs.{in-step-one, runs-count}
-use Rattle.runs.specs.Intervals.{Interval, interval, Named, Apart, ofRun, Free, Multiple, intervals as maximal-runs}
+use Rattle.runs.specs.Intervals.{Interval, interval, Named, Apart, Multiple, intervals as maximal-runs}
 use Rattle.runs.specs.Laws.Intervals.{apart-weaken, intervals-free, free-intervals}
 use Rattle.model.specs.Limits.{reach, max-intervals}
-use Rattle.model.specs.Bounded.{any-below, any-in}
+use Rattle.model.specs.Bounded.{any-in}
 use Rattle.model.specs.Columns.{Device, columns, half-rows, height, kind, cells-in, top-in, cells, top}
 use Rattle.model.specs.Tasks.{blocks, block, well-formed}
 use Rattle.model.specs.Book.{Running, Book, placed, covers, covered, standing, held, free, fits, intervals, holds-cell, cell-free}
 use Rattle.model.specs.Sound.{within}
 use Rattle.model.specs.Laws.Bounded.{and3-to, any-to, any-of-one, same-test, In}
-use Rattle.model.specs.Laws.Columns.{height-two, height-pos, top-le}
+use Rattle.model.specs.Laws.Columns.{height-two, height-pos}
 use Rattle.model.specs.Laws.Tasks.{solid-block}
-use Rattle.model.specs.Laws.Fits.{Fitting, fits-to}
-use Rattle.model.specs.Laws.Limits.{Entry, Limits, limits-to}
+use Rattle.model.specs.Laws.Fits.{fits-to}
+use Rattle.model.specs.Laws.Limits.{Entry, limits-to}
 
 -- ---- runs of cells of any height
 

@@ -1,17 +1,17 @@
 -- What it is for a device and a book to be within document 01's limits, as facts about rows, columns, numbers, tasks and cells. Assumes nothing.
-use Prim.Native.Nat.{ℕ, _≤_, _<_}
+use Prim.Native.Nat.{ℕ, zero, suc, _≤_, _<_}
 use mathlib.Core.Path.{_≡_, refl, sym, ap, _∙_}
-use mathlib.Core.Logic.{_⊎_, inl, inr}
-use mathlib.Core.Bool.{Bool, true, false, not, _&&_}
+use mathlib.Core.Logic.{inl, inr}
+use mathlib.Core.Bool.{true, false, not, _&&_}
 use mathlib.Core.List.{List, [], _∷_}
 use native.Mathlib.Omega.{arith}
 use lib.Dec.{leb, ltb}
-use lib.ListN.{length}
+use lib.ListN.{length, getD}
 use borrow.Author.Tests.{le-leb, lt-ltb, leb-true, not-true}
 use Rattle.runs.specs.Laws.Tests.{tests}
 use Rattle.model.specs.Limits.{max-rows, max-columns, max-kind, max-running, max-number}
 use Rattle.model.specs.Bounded.{any-below, all-in}
-use Rattle.model.specs.Columns.{Device, columns, cells, device-ok}
+use Rattle.model.specs.Columns.{Device, columns, kind, cells, device-ok}
 use Rattle.model.specs.Tasks.{sized, well-formed}
 use Rattle.model.specs.Book.{Running, Book, fits, holds-cell}
 use Rattle.model.specs.Sound.{number-ok, rising, task-ok, share, apart, book-ok, within}
@@ -40,6 +40,14 @@ pub rising-above : (m : ℕ) (b : Book) → Rising m b → (e : Running) → In 
 rising-above m [] r e i = absurd i
 rising-above m (f ∷ b) r e (inl q) = omega (arith, r .0, ap (λ (x : Running). x .number) q)
 rising-above m (f ∷ b) r e (inr i) = omega (arith, r .0, rising-above (f .number) b (r .1) e i)
+
+-- one task to a number
+pub one-number : (m : ℕ) (b : Book) → Rising m b → (e f : Running) → In e b → In f b → e .number ≡ f .number → e ≡ f
+one-number m [] r e f i j n = absurd i
+one-number m (g ∷ b) r e f (inl p) (inl q) n = p ∙ sym q
+one-number m (g ∷ b) r e f (inl p) (inr j) n = absurd (omega (arith, ap (λ (x : Running). x .number) p, rising-above (g .number) b (r .1) f j))
+one-number m (g ∷ b) r e f (inr i) (inl q) n = absurd (omega (arith, ap (λ (x : Running). x .number) q, rising-above (g .number) b (r .1) e i))
+one-number m (g ∷ b) r e f (inr i) (inr j) n = one-number (g .number) b (r .1) e f i j n
 
 -- ---- no cell shared
 
@@ -161,3 +169,13 @@ within-of d b v l n r a =
       all-in-of (task-ok d) b (λ e i. entry-task d e (n e i)),
     )
     (apart-of d 0 b r a)
+
+-- every column's kind is 0 to 2; where there is no column, it is read as 0
+pub kind-le : (d : Device) (b : Book) → Limits d b → (c : ℕ) → kind d c ≤ max-kind
+unfolding kind
+kind-le d b l = go (d .kinds) (l .kinds)
+  where
+    go : (ks : List ℕ) → ((k : ℕ) → In k ks → k ≤ max-kind) → (c : ℕ) → getD ks c 0 ≤ max-kind
+    go [] h c = omega arith
+    go (k ∷ ks) h zero = h k (inl refl)
+    go (k ∷ ks) h (suc c) = go ks (λ x i. h x (inr i)) c
