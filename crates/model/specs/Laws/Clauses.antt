@@ -14,7 +14,7 @@ use Rattle.model.specs.Columns.{columns}
 use Rattle.model.specs.Book.{intervals}
 use Rattle.model.specs.Record.{device-of, book-of, listed-intervals, column-at, entry-at}
 use Rattle.model.specs.Sound.{within, count-of, block-count, counts-ok, same-intervals, intervals-ok, zeros, used, unused-ok, sound}
-use Rattle.model.specs.Laws.Bounded.{and-to, and-of, and3-to, and4-to, and5-to, all-to, all-of}
+use Rattle.model.specs.Laws.Bounded.{and-to, and3-to, and4-to, and5-to, all-to, all-of}
 
 -- the bytes from a on and below e are 0
 abbrev pub Zero : List ℕ → ℕ → ℕ → Type 0
@@ -84,12 +84,15 @@ module _ (r : List ℕ) where
       let n = getD r running-at 0 in
       let (size, counts, limits, runs, unused) = and5-to (eqb (length r) record-size) (counts-ok r) (within (device-of r) (book-of r)) (intervals-ok r) (unused-ok r) h in
       let (few, bs, cs) = and3-to (leb n max-running) (all-below n blocks-ok) (all-below max-columns columns-ok) counts in
-      let (zk, zc, zi, zb) = and4-to (zeros r (kinds-at + k) (kinds-at + max-columns)) (zeros r (counts-at + k) (counts-at + max-columns)) (all-below max-columns interval-rest) (all-below max-running block-rest) unused in
+      let (zk, zc, zi, zb) =
+      and4-to (zeros r (kinds-at + k) (kinds-at + max-columns)) (zeros r (counts-at + k) (counts-at + max-columns)) (all-below max-columns interval-rest) (all-below max-running block-rest) unused in
+      let two : (j : ℕ) → j < n → (leb 1 (block-count r j) ≡ true) × (leb (block-count r j) max-blocks ≡ true) =
+      λ j q. and-to (leb 1 (block-count r j)) (leb (block-count r j) max-blocks) (all-to n blocks-ok bs j q) in
       record {
         size = eqb-true (length r) record-size size;
         few-running = leb-true n max-running few;
-        some-blocks = λ j q. leb-true 1 (block-count r j) (and-to (leb 1 (block-count r j)) (leb (block-count r j) max-blocks) (all-to n blocks-ok bs j q) .0);
-        few-blocks = λ j q. leb-true (block-count r j) max-blocks (and-to (leb 1 (block-count r j)) (leb (block-count r j) max-blocks) (all-to n blocks-ok bs j q) .1);
+        some-blocks = λ j q. leb-true 1 (block-count r j) (two j q .0);
+        few-blocks = λ j q. leb-true (block-count r j) max-blocks (two j q .1);
         few-intervals = λ c q. leb-true (count-of r c) max-intervals (all-to max-columns columns-ok cs c q);
         limits = limits;
         free-runs = λ c q. same-to (listed-intervals r c) (intervals (device-of r) (book-of r) c) (all-to (columns (device-of r)) runs-ok runs c q);
@@ -105,7 +108,7 @@ module _ (r : List ℕ) where
   clauses-of x =
       let k = getD r columns-at 0 in
       let n = getD r running-at 0 in
-      let bs = all-of n blocks-ok (λ j q. and-of (leb 1 (block-count r j)) (leb (block-count r j) max-blocks) (le-leb 1 (block-count r j) (x .some-blocks j q)) (le-leb (block-count r j) max-blocks (x .few-blocks j q))) in
+      let bs = all-of n blocks-ok (λ j q. rw (le-leb 1 (block-count r j) (x .some-blocks j q)) (le-leb (block-count r j) max-blocks (x .few-blocks j q))) in
       let cs = all-of max-columns columns-ok (λ c q. le-leb (count-of r c) max-intervals (x .few-intervals c q)) in
       let runs = all-of (columns (device-of r)) runs-ok (λ c q. rw (x .free-runs c q) (same-refl (intervals (device-of r) (book-of r) c))) in
       let zi = all-of max-columns interval-rest (λ c q. zeros-of r (column-at c + interval-size * count-of r c) (column-at c + column-size) (x .no-interval c q)) in

@@ -110,7 +110,8 @@ entry-remove b k j q =
     (slot-remove entry-size (map entry-bytes b) k j (omega (arith, length-map b entry-bytes))))
 
 -- the runs-in byte and the entries say another book
-pub reads-book : (d : Device) (b b′ : Book) (v : ℕ) {r : List ℕ} {kinds counts : ℕ → ℕ} {columns entries : ℕ → List ℕ} → Reads r (head-bytes d b) kinds counts columns entries
+pub reads-book : (d : Device) (b b′ : Book) (v : ℕ) {r : List ℕ} {kinds counts : ℕ → ℕ} {columns entries : ℕ → List ℕ}
+    → Reads r (head-bytes d b) kinds counts columns entries
     → v ≡ length b′ → ((j : ℕ) → j < max-running → entries j ≡ entry-part b′ j) → Reads (set r running-at v) (head-bytes d b′) kinds counts columns (entry-part b′)
 unfolding head-bytes bytes16
 reads-book d b b′ v x e h = reads-cong (reads-head x running-at v (omega arith)) (rw e) (λ c q. refl) (λ c q. refl) (λ c q. refl) h

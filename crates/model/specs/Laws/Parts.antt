@@ -244,7 +244,8 @@ module _ {ℓ} {A : Type ℓ} where
     pub e-is : part r (p + q + s + t) u ≡ e
 
   -- from five lists to their parts
-  pub cut : (a b c d e : List A) (p q s t u : ℕ) → length a ≡ p → length b ≡ q → length c ≡ s → length d ≡ t → length e ≡ u → Cut (a ++ b ++ c ++ d ++ e) a b c d e p q s t u
+  pub cut : (a b c d e : List A) (p q s t u : ℕ) → length a ≡ p → length b ≡ q → length c ≡ s → length d ≡ t → length e ≡ u
+      → Cut (a ++ b ++ c ++ d ++ e) a b c d e p q s t u
   cut a b c d e p q s t u la lb lc ld le =
       let r : List A = a ++ b ++ c ++ d ++ e in
       let ga : r ≡ [] ++ (a ++ (b ++ c ++ d ++ e)) = simp append-assoc in
@@ -320,7 +321,8 @@ module _ {ℓ} {A : Type ℓ} where
   unfolding splice
   splice-none r at = take-append-drop at r
 
-  pub splice-grow : (r : List A) (at n : ℕ) (v : List A) (x : A) → at + n < length r → length v ≡ n → set (splice r at n v) (at + n) x ≡ splice r at (n + 1) (v ++ (x ∷ []))
+  pub splice-grow : (r : List A) (at n : ℕ) (v : List A) (x : A) → at + n < length r → length v ≡ n
+      → set (splice r at n v) (at + n) x ≡ splice r at (n + 1) (v ++ (x ∷ []))
   unfolding splice
   splice-grow r at n v x h l =
       let rest = drop (suc n) (drop at r) in
@@ -345,7 +347,8 @@ module _ {ℓ} {A : Type ℓ} where
       rw (e, same, part-grow r₀ a i d (omega arith)) (splice-grow r₀ b i v (getD r₀ (a + i) d) (omega arith) lv)
 
   -- two neighbouring parts replaced, one after the other
-  pub splice-more : (r : List A) (at n m : ℕ) (u v : List A) → at + n ≤ length r → length u ≡ n → splice (splice r at n u) (at + n) m v ≡ splice r at (n + m) (u ++ v)
+  pub splice-more : (r : List A) (at n m : ℕ) (u v : List A) → at + n ≤ length r → length u ≡ n
+      → splice (splice r at n u) (at + n) m v ≡ splice r at (n + m) (u ++ v)
   unfolding splice
   splice-more r at n m u v h l =
       let rest = drop n (drop at r) in

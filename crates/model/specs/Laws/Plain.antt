@@ -54,7 +54,8 @@ module _ (f : ℕ → List ℕ) (k m : ℕ) (rest : (i : ℕ) → m ≤ i → f 
   join-plain n h = let e : m + (n - m) ≡ n = omega arith in rw e at (plain-by (n - m))
 
 -- places for pieces of one size are the pieces filled up
-pub slots-plain : (n k : ℕ) (ps : List (List ℕ)) → ((i : ℕ) → i < length ps → length (getD ps i []) ≡ k) → length ps ≤ n → slots n k ps ≡ padded (n * k) (joined ps)
+pub slots-plain : (n k : ℕ) (ps : List (List ℕ)) → ((i : ℕ) → i < length ps → length (getD ps i []) ≡ k) → length ps ≤ n
+    → slots n k ps ≡ padded (n * k) (joined ps)
 unfolding slots slot
 slots-plain n k ps size few =
     join-plain (slot k ps) k (length ps) (λ i h. slot-out k ps i h) (λ i q. length-padded k (getD ps i [])) n few
@@ -75,7 +76,8 @@ column-plain is few =
     slots-plain max-intervals interval-size (map interval-bytes is)
     (λ i q. getD-map interval-bytes is interval-size i (λ x. unfold interval-bytes bytes16 in refl) (omega (arith, length-map is interval-bytes))) (omega (arith, length-map is interval-bytes))
 
-entries-plain : (b : Book) → length b ≤ max-running → join-below max-running (entry-part b) ≡ padded (max-running * entry-size) (joined (map (λ e. padded entry-size (entry-bytes e)) b))
+entries-plain : (b : Book) → length b ≤ max-running
+    → join-below max-running (entry-part b) ≡ padded (max-running * entry-size) (joined (map (λ e. padded entry-size (entry-bytes e)) b))
 unfolding slots
 entries-plain b few =
     let whole : Running → List ℕ = λ e. padded entry-size (entry-bytes e) in

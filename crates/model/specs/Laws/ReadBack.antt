@@ -42,11 +42,13 @@ column-rest is i h q =
     let k = i / interval-size in
     let ps = map interval-bytes is in
     part-byte (column-part is) (interval-size * k) interval-size i 0 (omega arith) (omega arith)
-    ∙ ap (λ (p : List ℕ). getD p (i - interval-size * k) 0) (part-slots max-intervals interval-size ps k (omega arith) ∙ slot-out interval-size ps k (omega (arith, length-map is interval-bytes)))
+    ∙ ap (λ (p : List ℕ). getD p (i - interval-size * k) 0) (part-slots max-intervals interval-size ps k (omega arith)
+    ∙ slot-out interval-size ps k (omega (arith, length-map is interval-bytes)))
     ∙ getD-replicate interval-size (i - interval-size * k) 0 0 (omega arith)
 
 -- an entry past its blocks
-pub entry-rest : (e : Running) → length (e .task) ≡ block-size * blocks (e .task) → Zero (padded entry-size (entry-bytes e)) (blocks-at + block-size * blocks (e .task)) entry-size
+pub entry-rest : (e : Running) → length (e .task) ≡ block-size * blocks (e .task)
+    → Zero (padded entry-size (entry-bytes e)) (blocks-at + block-size * blocks (e .task)) entry-size
 unfolding entry-bytes bytes16
 entry-rest e w i h q =
     let out : length (entry-bytes e) ≤ i = omega arith in

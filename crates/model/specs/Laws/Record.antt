@@ -52,7 +52,8 @@ module _ (head : List ℕ) (kinds counts : ℕ → ℕ) (columns entries : ℕ �
       }
 
 -- THEOREM: and what reads so is laid out from these parts
-pub layout-reads : {r head : List ℕ} {kinds counts : ℕ → ℕ} {columns entries : ℕ → List ℕ} → Reads r head kinds counts columns entries → r ≡ layout head kinds counts columns entries
+pub layout-reads : {r head : List ℕ} {kinds counts : ℕ → ℕ} {columns entries : ℕ → List ℕ} → Reads r head kinds counts columns entries
+    → r ≡ layout head kinds counts columns entries
 unfolding layout
 layout-reads {r} {head} {kinds} {counts} {columns} {entries} x =
     uncut r head (list-below max-columns kinds) (list-below max-columns counts) (join-below max-columns columns) (join-below max-running entries)
@@ -76,7 +77,8 @@ length-head d b = refl
 
 module _ {r head : List ℕ} {kinds counts : ℕ → ℕ} {columns entries : ℕ → List ℕ} (x : Reads r head kinds counts columns entries) where
   -- the part of column c
-  pub reads-column : (c : ℕ) (v : List ℕ) → c < max-columns → length v ≡ column-size → Reads (splice r (column-at c) column-size v) head kinds counts (changed columns c v) entries
+  pub reads-column : (c : ℕ) (v : List ℕ) → c < max-columns → length v ≡ column-size
+      → Reads (splice r (column-at c) column-size v) head kinds counts (changed columns c v) entries
   reads-column c v q l =
       let at = column-at c in
       let fits : at + column-size ≤ length r = omega (arith, x .size) in
@@ -90,7 +92,8 @@ module _ {r head : List ℕ} {kinds counts : ℕ → ℕ} {columns entries : ℕ
       }
 
   -- entry j
-  pub reads-entry : (j : ℕ) (v : List ℕ) → j < max-running → length v ≡ entry-size → Reads (splice r (entry-at j) entry-size v) head kinds counts columns (changed entries j v)
+  pub reads-entry : (j : ℕ) (v : List ℕ) → j < max-running → length v ≡ entry-size
+      → Reads (splice r (entry-at j) entry-size v) head kinds counts columns (changed entries j v)
   reads-entry j v q l =
       let at = entry-at j in
       let fits : at + entry-size ≤ length r = omega (arith, x .size) in
@@ -217,7 +220,8 @@ shows-column r d b is c js x q =
     refl (λ i q. refl) (λ i q. map-changed length is c js i) (λ i q. map-changed column-part is c js i) (λ i q. refl)
 
 -- THEOREM: the same as an equation
-pub image-column : (d : Device) (b : Book) (is : ℕ → List Interval) (c : ℕ) (js : List Interval) → c < max-columns → put-column (image d b is) c js ≡ image d b (changed is c js)
+pub image-column : (d : Device) (b : Book) (is : ℕ → List Interval) (c : ℕ) (js : List Interval) → c < max-columns
+    → put-column (image d b is) c js ≡ image d b (changed is c js)
 image-column d b is c js q = shows-image (put-column (image d b is) c js) d b (changed is c js) (shows-column (image d b is) d b is c js (image-shows d b is) q)
 
 -- ---- entries

@@ -184,7 +184,8 @@ module _ (k : ℕ) (ps : List (List ℕ)) (i : ℕ) where
 
 module _ (k : ℕ) (ps : List (List ℕ)) (i : ℕ) where
   -- piece i taken out: the later ones stand one place lower, and the last place is zeros
-  pub slot-remove : (j : ℕ) → i < length ps → slot k (take i ps ++ drop (suc i) ps) j ≡ changed (lowered i (length ps - 1) (slot k ps)) (length ps - 1) (replicate k 0) j
+  pub slot-remove : (j : ℕ) → i < length ps
+      → slot k (take i ps ++ drop (suc i) ps) j ≡ changed (lowered i (length ps - 1) (slot k ps)) (length ps - 1) (replicate k 0) j
   slot-remove j h =
       let n = length ps - 1 in
       let f = lowered i n (slot k ps) in
@@ -212,7 +213,8 @@ unfolding slots
 slots-splice n k ps qs i x q l h = splice-join (slot k ps) k n i x (λ j p. length-slot k ps j) l q ∙ join-cong (changed (slot k ps) i x) (slot k qs) n h
 
 -- piece i replaced
-pub slots-set : (n k : ℕ) (ps : List (List ℕ)) (i : ℕ) (x : List ℕ) → i < n → i < length ps → length x ≡ k → splice (slots n k ps) (k * i) k x ≡ slots n k (set ps i x)
+pub slots-set : (n k : ℕ) (ps : List (List ℕ)) (i : ℕ) (x : List ℕ) → i < n → i < length ps → length x ≡ k
+    → splice (slots n k ps) (k * i) k x ≡ slots n k (set ps i x)
 unfolding slot
 slots-set n k ps i x q h l = slots-splice n k ps (set ps i x) i x q l (λ j p. elim (ℕ-discrete j i) [
   | yes e ↦ rw (e, changed-same (slot k ps) i x, getD-set-same ps i x [] h) (sym (padded-full k x l))
@@ -220,7 +222,8 @@ slots-set n k ps i x q h l = slots-splice n k ps (set ps i x) i x q l (λ j p. e
 ])
 
 -- one more piece, in the first free place
-pub slots-push : (n k : ℕ) (ps : List (List ℕ)) (x : List ℕ) → length ps < n → length x ≡ k → splice (slots n k ps) (k * length ps) k x ≡ slots n k (ps ++ (x ∷ []))
+pub slots-push : (n k : ℕ) (ps : List (List ℕ)) (x : List ℕ) → length ps < n → length x ≡ k
+    → splice (slots n k ps) (k * length ps) k x ≡ slots n k (ps ++ (x ∷ []))
 unfolding slot
 slots-push n k ps x q l =
     let m = length ps in

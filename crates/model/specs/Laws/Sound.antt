@@ -162,6 +162,6 @@ pub sound-record : (r : List ℕ) → Bytes r → sound r ≡ true → r ≡ rec
 unfolding record-of
 sound-record r B s = shows-image r (device-of r) (book-of r) (intervals (device-of r) (book-of r)) (shows-said r (clauses-to r s) B)
 
--- THEOREM: and only such are sound
+-- THEOREM: sound is, exactly, to say what is within the limits and to be its record
 pub sound-exactly : (r : List ℕ) → Bytes r → (sound r ≡ true) ↔ ((within (device-of r) (book-of r) ≡ true) × (r ≡ record-of (device-of r) (book-of r)))
 sound-exactly r B = (λ s. (sound-within r s, sound-record r B s), λ h. ap sound (h .1) ∙ record-sound (device-of r) (book-of r) (h .0))
