@@ -1,6 +1,13 @@
 -- What is proved of document 01's definitions.
 pub mod Bounded
+pub mod Parts
+pub mod Slots
+pub mod Record
+pub mod Entries
+pub mod ColumnPart
+pub mod Plain
 pub mod Columns
+pub mod Signed
 pub mod Tasks
 pub mod Fits
 pub mod Steps
@@ -11,3 +18,12 @@ pub mod Listing
 pub mod Kept
 pub mod Same
 pub mod Freed
+pub mod Homes
+pub mod Gaps
+pub mod Pieces
+pub mod Raised
+pub mod Climb
+pub mod Choice
+pub mod Ends
+pub mod NoPosition
+pub mod After

@@ -1,0 +1,344 @@
+-- The laws of the record's layout: its length, its parts, what is read back, equality by parts, and parts replaced in place. Assumes nothing.
+use Prim.Native.Nat.{ℕ, _+_, _*_, _/_, _%_, _≤_, _<_}
+use mathlib.Core.Path.{_≡_, refl, sym, ap, _∙_}
+use mathlib.Core.Bool.{Bool, true, false, cond}
+use mathlib.Core.List.{List, [], _∷_, _++_, map}
+use native.Mathlib.Omega.{arith}
+use native.Mathlib.Nat.{zero-add}
+use lib.Dec.{eqb}
+use borrow.Author.Tests.{le-ltb}
+use lib.ListN.{length, getD, set, replicate, length-set, length-map, List·getD-eq-default}
+use lib.Seq.{getD-set-other}
+use Rattle.runs.specs.Intervals.{Interval}
+use Rattle.runs.specs.Laws.Intervals.{free-intervals}
+use Rattle.model.specs.Limits.{max-columns, max-running, max-intervals, max-blocks, block-size, words, record-size, rows-at, columns-at, running-at, head-size, kinds-at, counts-at, intervals-at, column-size, interval-size, entries-at, entry-size, blocks-at}
+use Rattle.model.specs.Bounded.{join-below, list-below}
+use Rattle.model.specs.Columns.{Device, columns, kind, top}
+use Rattle.model.specs.Tasks.{word, blocks}
+use Rattle.model.specs.Book.{Running, Book, free, intervals}
+use Rattle.model.specs.Record.{bytes16, padded, interval-bytes, entry-bytes, layout, head-bytes, column-part, entry-part, image, record-of, part, column-at, entry-at, device-of, running-of, book-of}
+use Rattle.model.specs.Laws.Bounded.{clash}
+use Rattle.model.specs.Laws.Parts.{changed, splice, getD-part, part-end, join-cong, length-join, join-parts, list-parts, listed, byte-of, piece-of, cut, uncut, length-splice, part-splice-below, part-splice-above, getD-splice-below, piece-splice, byte-set, part-set-below, part-set-above, part-set}
+use Rattle.model.specs.Laws.Slots.{getD-padded, part-padded, length-slot, length-slots, slot-map, slot-out, slots-nil}
+
+-- ---- what it is for r to be laid out from these parts
+
+pub record Reads (r : List ℕ) (head : List ℕ) (kinds counts : ℕ → ℕ) (columns entries : ℕ → List ℕ) : Type 0 where
+  pub size : length r ≡ record-size
+  pub head-is : part r 0 head-size ≡ head
+  pub kind-is : (c : ℕ) → c < max-columns → getD r (kinds-at + c) 0 ≡ kinds c
+  pub count-is : (c : ℕ) → c < max-columns → getD r (counts-at + c) 0 ≡ counts c
+  pub column-is : (c : ℕ) → c < max-columns → part r (column-at c) column-size ≡ columns c
+  pub entry-is : (j : ℕ) → j < max-running → part r (entry-at j) entry-size ≡ entries j
+
+module _ (head : List ℕ) (kinds counts : ℕ → ℕ) (columns entries : ℕ → List ℕ) (l-head : length head ≡ head-size)
+    (l-column : (c : ℕ) → c < max-columns → length (columns c) ≡ column-size) (l-entry : (j : ℕ) → j < max-running → length (entries j) ≡ entry-size) where
+  l-kinds : length (list-below max-columns kinds) ≡ max-columns
+  l-kinds = length-join (λ c. kinds c ∷ []) 1 max-columns (λ c q. refl)
+
+  l-counts : length (list-below max-columns counts) ≡ max-columns
+  l-counts = length-join (λ c. counts c ∷ []) 1 max-columns (λ c q. refl)
+
+  l-columns : length (join-below max-columns columns) ≡ max-columns * column-size
+  l-columns = length-join columns column-size max-columns l-column
+
+  l-entries : length (join-below max-running entries) ≡ max-running * entry-size
+  l-entries = length-join entries entry-size max-running l-entry
+
+  pub reads-layout : Reads (layout head kinds counts columns entries) head kinds counts columns entries
+  unfolding layout
+  reads-layout =
+      let r = layout head kinds counts columns entries in
+      let x = cut head (list-below max-columns kinds) (list-below max-columns counts) (join-below max-columns columns) (join-below max-running entries) head-size max-columns max-columns (max-columns * column-size) (max-running * entry-size) l-head l-kinds l-counts l-columns l-entries in
+      record {
+        size = x .length-is;
+        head-is = x .a-is;
+        kind-is = λ c q. byte-of r kinds-at max-columns kinds c 0 (x .b-is) q;
+        count-is = λ c q. byte-of r counts-at max-columns counts c 0 (x .c-is) q;
+        column-is = λ c q. piece-of r intervals-at column-size max-columns columns c (x .d-is) l-column q;
+        entry-is = λ c q. piece-of r entries-at entry-size max-running entries c (x .e-is) l-entry q;
+      }
+
+pub layout-reads : {r head : List ℕ} {kinds counts : ℕ → ℕ} {columns entries : ℕ → List ℕ} → Reads r head kinds counts columns entries → r ≡ layout head kinds counts columns entries
+unfolding layout
+layout-reads {r} {head} {kinds} {counts} {columns} {entries} x =
+    uncut r head (list-below max-columns kinds) (list-below max-columns counts) (join-below max-columns columns) (join-below max-running entries) head-size max-columns max-columns (max-columns * column-size) (max-running * entry-size) (record {
+      length-is = x .size;
+      a-is = x .head-is;
+      b-is = sym (list-parts r kinds-at max-columns 0 (omega (arith, x .size))) ∙ join-cong (λ c. getD r (kinds-at + c) 0 ∷ []) (λ c. kinds c ∷ []) max-columns (λ c q. ap (λ b. b ∷ []) (x .kind-is c q));
+      c-is = sym (list-parts r counts-at max-columns 0 (omega (arith, x .size))) ∙ join-cong (λ c. getD r (counts-at + c) 0 ∷ []) (λ c. counts c ∷ []) max-columns (λ c q. ap (λ b. b ∷ []) (x .count-is c q));
+      d-is = sym (join-parts r intervals-at column-size max-columns) ∙ join-cong (λ c. part r (column-at c) column-size) columns max-columns (x .column-is);
+      e-is = sym (join-parts r entries-at entry-size max-running) ∙ join-cong (λ j. part r (entry-at j) entry-size) entries max-running (x .entry-is);
+    })
+
+-- ---- the pieces of a record
+
+pub length-head : (d : Device) (b : Book) → length (head-bytes d b) ≡ head-size
+unfolding head-bytes bytes16
+length-head d b = refl
+
+-- ---- a part or a byte replaced in place
+
+module _ {r head : List ℕ} {kinds counts : ℕ → ℕ} {columns entries : ℕ → List ℕ} (x : Reads r head kinds counts columns entries) where
+  pub reads-column : (c : ℕ) (v : List ℕ) → c < max-columns → length v ≡ column-size → Reads (splice r (column-at c) column-size v) head kinds counts (changed columns c v) entries
+  reads-column c v q l =
+      let at = column-at c in
+      let fits : at + column-size ≤ length r = omega (arith, x .size) in
+      record {
+        size = length-splice r at column-size v fits l ∙ x .size;
+        head-is = part-splice-below r at column-size v fits l 0 head-size (omega arith) ∙ x .head-is;
+        kind-is = λ i p. getD-splice-below r at column-size v fits l (kinds-at + i) 0 (omega arith) ∙ x .kind-is i p;
+        count-is = λ i p. getD-splice-below r at column-size v fits l (counts-at + i) 0 (omega arith) ∙ x .count-is i p;
+        column-is = piece-splice r intervals-at column-size max-columns columns c v (omega (arith, x .size)) l q (x .column-is);
+        entry-is = λ i p. part-splice-above r at column-size v fits l (entry-at i) entry-size (omega arith) ∙ x .entry-is i p;
+      }
+
+  pub reads-entry : (j : ℕ) (v : List ℕ) → j < max-running → length v ≡ entry-size → Reads (splice r (entry-at j) entry-size v) head kinds counts columns (changed entries j v)
+  reads-entry j v q l =
+      let at = entry-at j in
+      let fits : at + entry-size ≤ length r = omega (arith, x .size) in
+      record {
+        size = length-splice r at entry-size v fits l ∙ x .size;
+        head-is = part-splice-below r at entry-size v fits l 0 head-size (omega arith) ∙ x .head-is;
+        kind-is = λ i p. getD-splice-below r at entry-size v fits l (kinds-at + i) 0 (omega arith) ∙ x .kind-is i p;
+        count-is = λ i p. getD-splice-below r at entry-size v fits l (counts-at + i) 0 (omega arith) ∙ x .count-is i p;
+        column-is = λ i p. part-splice-below r at entry-size v fits l (column-at i) column-size (omega arith) ∙ x .column-is i p;
+        entry-is = piece-splice r entries-at entry-size max-running entries j v (omega (arith, x .size)) l q (x .entry-is);
+      }
+
+  pub reads-count : (c v : ℕ) → c < max-columns → Reads (set r (counts-at + c) v) head kinds (changed counts c v) columns entries
+  reads-count c v q =
+      let fits : counts-at + c < length r = omega (arith, x .size) in
+      record {
+        size = length-set r (counts-at + c) v ∙ x .size;
+        head-is = part-set-below r (counts-at + c) v 0 head-size (omega arith) fits ∙ x .head-is;
+        kind-is = λ i p. getD-set-other r (counts-at + c) (kinds-at + i) v 0 (omega arith) ∙ x .kind-is i p;
+        count-is = byte-set r counts-at max-columns counts c v 0 (omega (arith, x .size)) q (x .count-is);
+        column-is = λ i p. part-set-above r (counts-at + c) v (column-at i) column-size (omega arith) fits ∙ x .column-is i p;
+        entry-is = λ i p. part-set-above r (counts-at + c) v (entry-at i) entry-size (omega arith) fits ∙ x .entry-is i p;
+      }
+
+  -- a byte of the head
+  pub reads-head : (i v : ℕ) → i < head-size → Reads (set r i v) (set head i v) kinds counts columns entries
+  reads-head i v q =
+      let fits : i < length r = omega (arith, x .size) in
+      record {
+        size = length-set r i v ∙ x .size;
+        head-is = (rw zero-add at (part-set r 0 head-size i v q)) ∙ ap (λ h. set h i v) (x .head-is);
+        kind-is = λ c p. getD-set-other r i (kinds-at + c) v 0 (omega arith) ∙ x .kind-is c p;
+        count-is = λ c p. getD-set-other r i (counts-at + c) v 0 (omega arith) ∙ x .count-is c p;
+        column-is = λ c p. part-set-above r i v (column-at c) column-size (omega arith) fits ∙ x .column-is c p;
+        entry-is = λ c p. part-set-above r i v (entry-at c) entry-size (omega arith) fits ∙ x .entry-is c p;
+      }
+
+-- the same parts, said in another way
+pub reads-cong : {r h h′ : List ℕ} {k k′ n n′ : ℕ → ℕ} {p p′ e e′ : ℕ → List ℕ} → Reads r h k n p e
+    → h ≡ h′ → ((i : ℕ) → i < max-columns → k i ≡ k′ i) → ((i : ℕ) → i < max-columns → n i ≡ n′ i) → ((i : ℕ) → i < max-columns → p i ≡ p′ i) → ((i : ℕ) → i < max-running → e i ≡ e′ i)
+    → Reads r h′ k′ n′ p′ e′
+reads-cong x a b c d f =
+    record {
+      size = x .size;
+      head-is = x .head-is ∙ a;
+      kind-is = λ i q. x .kind-is i q ∙ b i q;
+      count-is = λ i q. x .count-is i q ∙ c i q;
+      column-is = λ i q. x .column-is i q ∙ d i q;
+      entry-is = λ i q. x .entry-is i q ∙ f i q;
+    }
+
+-- ---- the image and the record
+
+-- r is the record of d and b, but that the intervals of column c are `is c`
+abbrev pub Shows : List ℕ → Device → Book → (ℕ → List Interval) → Type 0
+Shows r d b is = Reads r (head-bytes d b) (kind d) (λ c. length (is c)) (λ c. column-part (is c)) (entry-part b)
+
+pub length-column : (is : List Interval) → length (column-part is) ≡ column-size
+unfolding column-part
+length-column is = length-slots max-intervals interval-size (map interval-bytes is)
+
+pub image-shows : (d : Device) (b : Book) (is : ℕ → List Interval) → Shows (image d b is) d b is
+unfolding image
+image-shows d b is =
+    reads-layout (head-bytes d b) (kind d) (λ c. length (is c)) (λ c. column-part (is c)) (entry-part b) (length-head d b)
+    (λ c q. length-column (is c)) (λ j q. length-slot entry-size (map entry-bytes b) j)
+
+pub shows-image : (r : List ℕ) (d : Device) (b : Book) (is : ℕ → List Interval) → Shows r d b is → r ≡ image d b is
+unfolding image
+shows-image r d b is x = layout-reads x
+
+pub record-length : (d : Device) (b : Book) → length (record-of d b) ≡ record-size
+unfolding record-of
+record-length d b = image-shows d b (intervals d b) .size
+
+-- ---- the head
+
+pub word-is : (p : List ℕ) (i n : ℕ) → n < words → getD p i 0 ≡ n % 256 → getD p (i + 1) 0 ≡ n / 256 % 256 → word p i ≡ n
+unfolding word
+word-is p i n h e f = omega arith
+
+module _ (d : Device) (b : Book) {r : List ℕ} {kinds counts : ℕ → ℕ} {columns′ entries : ℕ → List ℕ} (x : Reads r (head-bytes d b) kinds counts columns′ entries) where
+  head-byte : (i : ℕ) → i < head-size → getD r i 0 ≡ getD (head-bytes d b) i 0
+  head-byte i q = sym (rw zero-add at (getD-part r 0 head-size i 0 q)) ∙ ap (λ h. getD h i 0) (x .head-is)
+
+  pub rows-read : d .rows < words → word r rows-at ≡ d .rows
+  unfolding head-bytes bytes16
+  rows-read h = word-is r 0 (d .rows) h (head-byte 0 (omega arith)) (head-byte 1 (omega arith))
+
+  pub columns-read : getD r columns-at 0 ≡ columns d
+  unfolding head-bytes bytes16
+  columns-read = head-byte 2 (omega arith)
+
+  pub running-read : getD r running-at 0 ≡ length b
+  unfolding head-bytes bytes16
+  running-read = head-byte 3 (omega arith)
+
+-- ---- one column replaced
+
+map-changed {ℓ κ} : {A : Type ℓ} {B : Type κ} (g : A → B) (f : ℕ → A) (c : ℕ) (v : A) (i : ℕ) → changed (λ j. g (f j)) c (g v) i ≡ g (changed f c v i)
+unfolding changed
+map-changed g f c v i = go (eqb i c)
+  where
+    go : (t : Bool) → cond t (g v) (g (f i)) ≡ g (cond t v (f i))
+    go true = refl
+    go false = refl
+
+-- column c's part and count byte replaced
+unfoldable pub put-column : List ℕ → ℕ → List Interval → List ℕ
+put-column r c js = set (splice r (column-at c) column-size (column-part js)) (counts-at + c) (length js)
+
+pub shows-column : (r : List ℕ) (d : Device) (b : Book) (is : ℕ → List Interval) (c : ℕ) (js : List Interval) → Shows r d b is → c < max-columns
+    → Shows (put-column r c js) d b (changed is c js)
+unfolding put-column
+shows-column r d b is c js x q =
+    reads-cong (reads-count (reads-column x c (column-part js) q (length-column js)) c (length js) q)
+    refl (λ i q. refl) (λ i q. map-changed length is c js i) (λ i q. map-changed column-part is c js i) (λ i q. refl)
+
+pub image-column : (d : Device) (b : Book) (is : ℕ → List Interval) (c : ℕ) (js : List Interval) → c < max-columns → put-column (image d b is) c js ≡ image d b (changed is c js)
+image-column d b is c js q = shows-image (put-column (image d b is) c js) d b (changed is c js) (shows-column (image d b is) d b is c js (image-shows d b is) q)
+
+-- ---- entries
+
+-- what an entry's bytes can hold
+pub record Writable (e : Running) : Type 0 where
+  pub number-fits : e .number < words
+  pub bottom-fits : e .bottom < words
+  pub whole : length (e .task) ≡ block-size * blocks (e .task)
+  pub short : blocks (e .task) ≤ max-blocks
+
+pub entry-back : (e : Running) → Writable e → running-of (padded entry-size (entry-bytes e)) ≡ e
+unfolding running-of entry-bytes bytes16
+entry-back e w =
+    let p = padded entry-size (entry-bytes e) in
+    let at : (i : ℕ) → i < entry-size → getD p i 0 ≡ getD (entry-bytes e) i 0 = λ i q. getD-padded entry-size (entry-bytes e) i q in
+    let number : word p 0 ≡ e .number = word-is p 0 (e .number) (w .number-fits) (at 0 (omega arith)) (at 1 (omega arith)) in
+    let bottom : word p 4 ≡ e .bottom = word-is p 4 (e .bottom) (w .bottom-fits) (at 4 (omega arith)) (at 5 (omega arith)) in
+    let m : block-size * getD p 3 0 ≡ length (e .task) = omega (arith, at 3 (omega arith)) in
+    let task : part p blocks-at (block-size * getD p 3 0) ≡ e .task =
+    rw m (part-padded entry-size (entry-bytes e) blocks-at (length (e .task)) (omega arith) (omega arith)
+    ∙ part-end (bytes16 (e .number) ++ (e .column ∷ blocks (e .task) ∷ []) ++ bytes16 (e .bottom)) (e .task) blocks-at (length (e .task)) refl refl) in
+    λ i. record { number = number i; column = at 2 (omega arith) i; bottom = bottom i; task = task i }
+
+-- for the place of an entry that is not there
+pub no-entry : Running
+no-entry = record { number = 0; column = 0; bottom = 0; task = [] }
+
+module _ (d : Device) (b : Book) {r : List ℕ} {counts : ℕ → ℕ} {columns′ : ℕ → List ℕ} (x : Reads r (head-bytes d b) (kind d) counts columns′ (entry-part b)) where
+  pub device-back : d .rows < words → columns d ≤ max-columns → device-of r ≡ d
+  unfolding device-of columns kind
+  device-back h few =
+      let kinds : list-below (getD r columns-at 0) (λ c. getD r (kinds-at + c) 0) ≡ d .kinds =
+      rw (columns-read d b x)
+      (join-cong (λ c. getD r (kinds-at + c) 0 ∷ []) (λ c. kind d c ∷ []) (columns d) (λ c q. ap (λ k. k ∷ []) (x .kind-is c (omega arith))) ∙ listed (d .kinds) 0) in
+      λ i. record { rows = rows-read d b x h i; kinds = kinds i }
+
+  pub book-back : length b ≤ max-running → ((j : ℕ) → j < length b → Writable (getD b j no-entry)) → book-of r ≡ b
+  unfolding book-of
+  book-back few w =
+      rw (running-read d b x)
+      (join-cong (λ j. running-of (part r (entry-at j) entry-size) ∷ []) (λ j. getD b j no-entry ∷ []) (length b)
+      (λ j q. ap (λ e. e ∷ []) (ap running-of (x .entry-is j (omega arith) ∙ slot-map entry-size entry-bytes b j no-entry q) ∙ entry-back (getD b j no-entry) (w j q)))
+      ∙ listed b no-entry)
+
+-- ---- past the device's columns nothing stands
+
+pub intervals-out : (d : Device) (b : Book) (c : ℕ) → columns d ≤ c → intervals d b c ≡ []
+unfolding intervals free
+intervals-out d b c h =
+    sym (free-intervals (free d b c) (top d c) [] (record { canon = tt; named = λ y. (λ n. absurd n, λ k. clash (k .1) (none y)) }))
+  where
+    none : (y : ℕ) → free d b c y ≡ false
+    none y = rw (le-ltb c (columns d) h)
+
+pub column-part-nil : column-part [] ≡ replicate column-size 0
+unfolding column-part
+column-part-nil = slots-nil max-intervals interval-size
+
+pub column-part-out : (d : Device) (b : Book) (c : ℕ) → columns d ≤ c → column-part (intervals d b c) ≡ replicate column-size 0
+column-part-out d b c h = rw (intervals-out d b c h) column-part-nil
+
+pub kind-out : (d : Device) (c : ℕ) → columns d ≤ c → kind d c ≡ 0
+unfolding kind columns
+kind-out d c h = List·getD-eq-default (d .kinds) 0 h
+
+-- ---- equality by parts
+
+pub same-parts : (r s : List ℕ) → length r ≡ record-size → length s ≡ record-size → part r 0 head-size ≡ part s 0 head-size
+    → ((c : ℕ) → c < max-columns → getD r (kinds-at + c) 0 ≡ getD s (kinds-at + c) 0) → ((c : ℕ) → c < max-columns → getD r (counts-at + c) 0 ≡ getD s (counts-at + c) 0)
+    → ((c : ℕ) → c < max-columns → part r (column-at c) column-size ≡ part s (column-at c) column-size)
+    → ((j : ℕ) → j < max-running → part r (entry-at j) entry-size ≡ part s (entry-at j) entry-size) → r ≡ s
+same-parts r s lr ls h k n p e =
+    layout-reads (record { size = lr; head-is = h; kind-is = k; count-is = n; column-is = p; entry-is = e })
+    ∙ sym (layout-reads (record { size = ls; head-is = refl; kind-is = λ c q. refl; count-is = λ c q. refl; column-is = λ c q. refl; entry-is = λ j q. refl }))
+
+pub image-cong : (d : Device) (b : Book) (is js : ℕ → List Interval) → ((c : ℕ) → c < max-columns → is c ≡ js c) → image d b is ≡ image d b js
+image-cong d b is js h =
+    shows-image (image d b is) d b js
+    (reads-cong (image-shows d b is) refl (λ c q. refl) (λ c q. ap length (h c q)) (λ c q. ap column-part (h c q)) (λ j q. refl))
+
+-- ---- the record
+
+-- the limits of the layout
+pub record Room (d : Device) (b : Book) : Type 0 where
+  pub rows-fit : d .rows < words
+  pub columns-fit : columns d ≤ max-columns
+  pub book-fits : length b ≤ max-running
+  pub entries-fit : (j : ℕ) → j < length b → Writable (getD b j no-entry)
+
+pub record-shows : (d : Device) (b : Book) → Shows (record-of d b) d b (intervals d b)
+unfolding record-of
+record-shows d b = image-shows d b (intervals d b)
+
+-- its regions
+module _ (d : Device) (b : Book) where
+  pub record-rows : d .rows < words → word (record-of d b) rows-at ≡ d .rows
+  record-rows = rows-read d b (record-shows d b)
+
+  pub record-columns : getD (record-of d b) columns-at 0 ≡ columns d
+  record-columns = columns-read d b (record-shows d b)
+
+  pub record-running : getD (record-of d b) running-at 0 ≡ length b
+  record-running = running-read d b (record-shows d b)
+
+  pub record-kind : (c : ℕ) → c < max-columns → getD (record-of d b) (kinds-at + c) 0 ≡ kind d c
+  record-kind = record-shows d b .kind-is
+
+  pub record-count : (c : ℕ) → c < max-columns → getD (record-of d b) (counts-at + c) 0 ≡ length (intervals d b c)
+  record-count = record-shows d b .count-is
+
+  pub record-count-out : (c : ℕ) → c < max-columns → columns d ≤ c → getD (record-of d b) (counts-at + c) 0 ≡ 0
+  record-count-out c q h = record-count c q ∙ ap length (intervals-out d b c h)
+
+  pub record-column : (c : ℕ) → c < max-columns → part (record-of d b) (column-at c) column-size ≡ column-part (intervals d b c)
+  record-column = record-shows d b .column-is
+
+  pub record-entry : (j : ℕ) (n : Running) → j < max-running → j < length b → part (record-of d b) (entry-at j) entry-size ≡ padded entry-size (entry-bytes (getD b j n))
+  record-entry j n q h = record-shows d b .entry-is j q ∙ slot-map entry-size entry-bytes b j n h
+
+  pub record-entry-out : (j : ℕ) → j < max-running → length b ≤ j → part (record-of d b) (entry-at j) entry-size ≡ replicate entry-size 0
+  record-entry-out j q h = record-shows d b .entry-is j q ∙ slot-out entry-size (map entry-bytes b) j (omega (arith, length-map b entry-bytes))
+
+-- read back
+pub device-of-record : (d : Device) (b : Book) → Room d b → device-of (record-of d b) ≡ d
+device-of-record d b w = device-back d b (record-shows d b) (w .rows-fit) (w .columns-fit)
+
+pub book-of-record : (d : Device) (b : Book) → Room d b → book-of (record-of d b) ≡ b
+book-of-record d b w = book-back d b (record-shows d b) (w .book-fits) (w .entries-fit)
