@@ -1,11 +1,9 @@
--- What is proved of document 01's definitions.
+-- What is proved of document 01's definitions, from the tools up.
 pub mod Bounded
+-- lists and bytes
 pub mod Parts
 pub mod Slots
-pub mod Record
-pub mod Entries
-pub mod ColumnPart
-pub mod Plain
+-- columns, tasks and where they fit
 pub mod Columns
 pub mod Signed
 pub mod Tasks
@@ -15,9 +13,16 @@ pub mod Limits
 pub mod Cells
 pub mod Split
 pub mod Listing
-pub mod Kept
-pub mod Same
-pub mod Freed
+-- the record
+pub mod Record
+pub mod Entries
+pub mod ColumnPart
+pub mod Plain
+pub mod Clauses
+pub mod WriteBack
+pub mod ReadBack
+pub mod Sound
+-- the choice
 pub mod Homes
 pub mod Gaps
 pub mod Pieces
@@ -27,3 +32,7 @@ pub mod Choice
 pub mod Ends
 pub mod NoPosition
 pub mod After
+-- the book after a call
+pub mod Kept
+pub mod Same
+pub mod Freed
