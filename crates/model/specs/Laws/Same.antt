@@ -1,22 +1,16 @@
--- Two books by rising number with the same tasks are one book, so their records are one record; and a record has room for a book within the limits.
--- Assumes nothing.
-use Prim.Native.Nat.{ℕ, zero, suc, _≤_, _<_}
+-- Two books by rising number with the same tasks are one book, so their records are one record. Assumes nothing.
+use Prim.Native.Nat.{ℕ}
 use mathlib.Core.Path.{_≡_, refl, sym, ap, ap₂, _∙_}
 use mathlib.Core.Logic.{inl, inr, _↔_}
 use mathlib.Core.Bool.{true}
 use mathlib.Core.List.{[], _∷_}
 use native.Mathlib.Omega.{arith}
-use lib.ListN.{length, getD}
-use Rattle.model.specs.Limits.{max-rows}
 use Rattle.model.specs.Columns.{Device}
 use Rattle.model.specs.Book.{Running, Book}
 use Rattle.model.specs.Record.{record-of}
 use Rattle.model.specs.Sound.{within}
 use Rattle.model.specs.Laws.Bounded.{In}
-use Rattle.model.specs.Laws.Tasks.{sized-to}
-use Rattle.model.specs.Laws.Fits.{fits-below}
-use Rattle.model.specs.Laws.Record.{Writable, Room, no-entry}
-use Rattle.model.specs.Laws.Limits.{Entry, Rising, rising-above, limits-to}
+use Rattle.model.specs.Laws.Limits.{Rising, rising-above, limits-to}
 
 module _ (m n : ℕ) (e f : Running) (a b : Book) (r : Rising m (e ∷ a)) (s : Rising n (f ∷ b)) where
   -- one of a book's tasks has its first number, or one above it
@@ -49,24 +43,3 @@ same-tasks d a b v w h = rising-same 0 0 a b (limits-to d a v .rising) (limits-t
 -- so there is one record of a device and its running tasks, whatever the order in which they came
 pub same-records : (d : Device) (a b : Book) → within d a ≡ true → within d b ≡ true → ((e : Running) → In e a ↔ In e b) → record-of d a ≡ record-of d b
 same-records d a b v w h = ap (record-of d) (same-tasks d a b v w h)
-
--- ---- room
-
-in-getD : (b : Book) (j : ℕ) (e : Running) → j < length b → In (getD b j e) b
-in-getD [] j e l = absurd (omega arith)
-in-getD (f ∷ b) zero e l = inl refl
-in-getD (f ∷ b) (suc j) e l = inr (in-getD b j e (omega arith))
-
--- THEOREM: the record has room for a device and a book within the limits, so both are read back from it (Laws.Record)
-pub within-room : (d : Device) (b : Book) → within d b ≡ true → Room d b
-within-room d b w =
-    let l = limits-to d b w in
-    let r = l .rows in
-    record { rows-fit = omega arith; columns-fit = l .columns; book-fits = l .few; entries-fit = λ j i. writable r (getD b j no-entry) (l .entries (getD b j no-entry) (in-getD b j no-entry i)) }
-  where
-    writable : d .rows ≤ max-rows → (e : Running) → Entry d e → Writable e
-    writable r e n =
-        let s = sized-to (e .task) (n .sized) in
-        let (c, y) = fits-below d [] (e .task) (e .column) (e .bottom) (n .well-formed) (s .some-blocks) (n .fits) in
-        let m = n .number in
-        record { number-fits = omega arith; bottom-fits = omega arith; whole = s .whole; short = s .few }
