@@ -24,6 +24,7 @@ use Rattle.model.specs.Laws.Bounded.{and3-to, any-to, any-of-one, same-t
 use Rattle.model.specs.Laws.Columns.{height-two, height-pos}
 use Rattle.model.specs.Laws.Tasks.{solid-block}
 use Rattle.model.specs.Laws.Fits.{fits-to}
+use Rattle.model.specs.Laws.Homes.{in-named, in-bounds}
 use Rattle.model.specs.Laws.Limits.{Entry, limits-to}
 
 -- ---- runs of cells of any height
@@ -165,15 +166,10 @@ module _ (d : Device) (b : Book) (w : within d b ≡ true) (c : ℕ) where
       let h = mul-le-mul-right {m = 2} {n = height (kind d c)} (cells d c) (height-two (kind d c)) in
       rw intervals-cells (simp length-map (omega (arith, limits-to d b w .rows, runs-count 1 (cell-free d b c) (in-step-one (cell-free d b c)) (cells d c))))
 
-in-bounds : (m : ℕ) (L : List Interval) → Apart m L → (i : Interval) → In i L → (i .bottom < i .top) × Named (i .top - 1) L
-in-bounds m [] c i n = absurd n
-in-bounds m (j ∷ L) c i (inl e) = rw e (c .1, inl (omega arith, omega arith))
-in-bounds m (j ∷ L) c i (inr n) = let (l, r) = in-bounds (suc (j .top)) L (c .2) i n in (l, inr r)
-
 -- each free interval has a half row, and ends at or below the top of the last cell
 pub interval-ends : (d : Device) (b : Book) (c : ℕ) (i : Interval) → In i (intervals d b c) → (i .bottom < i .top) × (i .top ≤ top d c)
 unfolding intervals
 interval-ends d b c i m =
     let g = intervals-free (free d b c) (top d c) in
-    let (l, n) = in-bounds 0 (intervals d b c) (g .canon) i m in
-    (l, omega (arith, g .named (i .top - 1) .0 n .0))
+    let (u, l) = in-bounds 0 i (intervals d b c) (g .canon) m in
+    (l, omega (arith, g .named (i .top - 1) .0 (in-named (i .top - 1) i (intervals d b c) m (omega arith) (omega arith)) .0))

@@ -19,6 +19,7 @@ use Rattle.model.specs.Book.{Book, fits}
 use Rattle.model.specs.Listing.{range-of, ranges, Position, position, named, fitting}
 use Rattle.model.specs.Sound.{within}
 use Rattle.model.specs.Laws.Bounded.{In}
+use Rattle.model.specs.Laws.Parts.{join-cong}
 use Rattle.model.specs.Laws.Tasks.{sized-to}
 use Rattle.model.specs.Laws.Steps.{fits-steps, step-two}
 use Rattle.model.specs.Laws.Limits.{limits-to}
@@ -44,11 +45,6 @@ module _ {A B : Type 0} where
   unfolding join-below
   map-list f g zero = refl
   map-list f g (suc n) = map-append f (list-below n g) (g n ∷ []) ∙ ap (λ (l : List B). l ++ (f (g n) ∷ [])) (map-list f g n)
-
-pub join-ext : {A : Type 0} (n : ℕ) (f g : ℕ → List A) → ((i : ℕ) → i < n → f i ≡ g i) → join-below n f ≡ join-below n g
-unfolding join-below
-join-ext zero f g h = refl
-join-ext {A} (suc n) f g h = ap₂ (λ (x y : List A). x ++ y) (join-ext n f g (λ i l. h i (omega arith))) (h n (omega arith))
 
 pub join-length : {A : Type 0} (m n : ℕ) (f : ℕ → List A) → ((i : ℕ) → length (f i) ≤ m) → length (join-below n f) ≤ m * n
 unfolding join-below
@@ -126,7 +122,7 @@ module _ (d : Device) (b : Book) (t : List ℕ) (n : sized t ≡ true) where
   unfolding ranges fitting
   listing-names =
       join-join named (λ p. map (range-of p (step t)) (runs (step t) (fits d b t p) (half-rows d))) (columns d)
-      ∙ join-ext (columns d) _ _
+      ∙ join-cong _ _ (columns d)
       (λ p l. named-numbers p (step t) (runs (step t) (fits d b t p) (half-rows d))
       ∙ ap (map (position p)) (numbers-runs (step t) (omega (arith, step-two t)) (fits d b t p) (in-step p) (half-rows d)))
 
