@@ -36,3 +36,5 @@ pub mod After
 pub mod Kept
 pub mod Same
 pub mod Freed
+pub mod OnCells
+pub mod Step
