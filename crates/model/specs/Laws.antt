@@ -38,3 +38,4 @@ pub mod Same
 pub mod Freed
 pub mod OnCells
 pub mod Step
+pub mod History
