@@ -37,5 +37,6 @@ pub mod Kept
 pub mod Same
 pub mod Freed
 pub mod OnCells
+pub mod RangeBytes
 pub mod Step
 pub mod History

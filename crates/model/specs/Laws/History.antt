@@ -2,14 +2,14 @@
 -- made. The step of the list is `on-record`, the definition that the exported functions' contracts cite; the book's is `on-book`, which knows only the
 -- device and the calls' arguments. Assumes nothing.
 use Prim.Native.Nat.{ℕ, _≤_}
-use mathlib.Core.Path.{_≡_, refl, sym, ap, ap₂, _∙_}
+use mathlib.Core.Path.{_≡_, refl, sym, ap, _∙_}
 use mathlib.Core.Logic.{inl, inr, _↔_, Iff·trans}
 use mathlib.Core.Bool.{Bool, true, false, not, cond}
-use mathlib.Core.Option.{Option, none, some}
+use mathlib.Core.Option.{none, some}
 use mathlib.Core.List.{List, [], _∷_}
 use native.Mathlib.Omega.{arith}
 use lib.Dec.{eqb}
-use lib.IntN.{ℤ, pos, negsuc, negℤ}
+use lib.IntN.{ℤ, pos, negℤ}
 use lib.ListN.{length}
 use borrow.Author.Tests.{not-false}
 use Rattle.model.specs.Limits.{record-size, list-room}
@@ -26,6 +26,7 @@ use Rattle.model.specs.History.{Trace, trace, on-records, book-of-histor
 use Rattle.model.specs.Laws.Bounded.{In, is-false}
 use Rattle.model.specs.Laws.Listing.{listing-names}
 use Rattle.model.specs.Laws.OnCells.{AllOnCells, fitting-cells, nowhere-cells}
+use Rattle.model.specs.Laws.RangeBytes.{ranges-in, read-ranges}
 use Rattle.model.specs.Laws.Step.{same-step, Fine, not-bad, list-done, list-none, choose-none}
 use Rattle.model.specs.Laws.Kept.{within-new, kept, apart-cells}
 use Rattle.model.specs.Laws.Same.{same-records}
@@ -42,7 +43,8 @@ pub record Listed (d : Device) (b : Book) (r t o : List ℕ) (L : Outcome (List 
   pub answer : L .answer ≡ pos (length (ranges d b t))
   pub output : L .output ≡ over (join-in range-bytes (ranges d b t)) o
   pub state : L .state ≡ r
-  -- the ranges name the fitting positions, "each once, by column and then by bottom"
+  -- these are the ranges that its bytes say, and they name the fitting positions, "each once, by column and then by bottom"
+  pub said : ranges-in (length (ranges d b t)) (L .output) ≡ ranges d b t
   pub names : join-in named (ranges d b t) ≡ fitting d b t
 
 -- R is what the calls gave on the record, B what they gave in the book
@@ -50,30 +52,23 @@ pub record History (d : Device) (R : Trace (List ℕ)) (B : Trace Book) : Type 0
   -- "Every call answers, and every listing writes, exactly what document 01's book gives"
   pub answers : R .answers ≡ B .answers
   pub outputs : R .outputs ≡ B .outputs
-
   -- "No call finds the record too short, too long or not sound."
   pub no-bad-record : (a : ℤ) → In a (R .answers) → ¬ (a ≡ negℤ (pos 1)) × ¬ (a ≡ negℤ (pos 2))
-
   -- "After the list no two running tasks hold one cell"
   pub apart : (e f : Running) → In e (B .final) → In f (B .final) → ¬ (e .number ≡ f .number)
       → (c k : ℕ) → holds-cell d e c k ≡ true → holds-cell d f c k ≡ true → ⊥
-
   -- "and the record equals the book's, byte for byte"
   pub same-bytes : R .final ≡ record-of d (B .final)
-
   -- "The listing of any well-formed task, given a long enough output, then names .. each once, by column and then by bottom"
   pub listing : (t o : List ℕ) → sized t ≡ true → well-formed t ≡ true → list-room ≤ length o → (p y : ℕ) → AllOnCells d (B .final) t p y
       → Listed d (B .final) (R .final) t o (on-record (R .final) (list t o))
-
   -- "exactly the positions at which all its blocks fit cells that the book has free"
   pub positions : (t : List ℕ) → sized t ≡ true → well-formed t ≡ true → (p y : ℕ) → In (position p y) (fitting d (B .final) t) ↔ AllOnCells d (B .final) t p y
-
   -- "That listing, and a choice for that task, answer "no position" exactly when no such position exists."
   pub list-none : (t o : List ℕ) → sized t ≡ true → well-formed t ≡ true → list-room ≤ length o
       → (on-record (R .final) (list t o) .answer ≡ negℤ (pos 9)) ↔ ((p y : ℕ) → ¬ (AllOnCells d (B .final) t p y))
   pub choose-none : (t : List ℕ) → sized t ≡ true → well-formed t ≡ true
       → (on-record (R .final) (choose t) .answer ≡ negℤ (pos 9)) ↔ ((p y : ℕ) → ¬ (AllOnCells d (B .final) t p y))
-
   -- "Two such lists on the same device that end with the same tasks, under the same numbers at the same positions, end with equal records."
   pub alike : (r : List ℕ) → new r (d .rows) (d .kinds) .answer ≡ pos 0 → (cs : List Call)
       → ((e : Running) → In e (B .final) ↔ In e (book-of-history d cs .final)) → R .final ≡ on-records (new r (d .rows) (d .kinds) .state) cs .final
@@ -141,7 +136,8 @@ module _ (d : Device) (b : Book) (w : within d b ≡ true) (t : List ℕ) (s : s
   unfolding written
   listed o l p y h =
       let n : no-position d b t ≡ false = is-false (no-position d b t) (λ e. nowhere-cells d b w t f s .0 e p y h) in
-      rw (same-step d b (list t o) w, list-done d b t s f o l n) (record { answer = refl; output = refl; state = refl; names = listing-names d b t s })
+      rw (same-step d b (list t o) w, list-done d b t s f o l n)
+      (record { answer = refl; output = refl; state = refl; said = read-ranges d b w t s o; names = listing-names d b t s })
 
   no-list : (o : List ℕ) → list-room ≤ length o → (on-record (record-of d b) (list t o) .answer ≡ negℤ (pos 9)) ↔ ((p y : ℕ) → ¬ (AllOnCells d b t p y))
   unfolding written

@@ -7,7 +7,7 @@ use mathlib.Core.List.{List}
 use native.Mathlib.Nat.{div-add-mod, div-add-mod', mod-lt, mul-div-le, le-div-iff-mul-le, mul-le-mul-right}
 use native.Mathlib.Omega.{arith}
 use Rattle.model.specs.Limits.{reach}
-use Rattle.model.specs.Columns.{Device, columns, half-rows, height, kind, top}
+use Rattle.model.specs.Columns.{Device, columns, half-rows, height, kind}
 use Rattle.model.specs.Tasks.{Block, blocks, block, sized, well-formed}
 use Rattle.model.specs.Book.{Book, free, fits, cell-free}
 use Rattle.model.specs.Listing.{position, fitting}
