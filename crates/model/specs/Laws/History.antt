@@ -8,22 +8,22 @@ use mathlib.Core.Bool.{Bool, true, false, not, cond}
 use mathlib.Core.Option.{none, some}
 use mathlib.Core.List.{List, [], _∷_}
 use native.Mathlib.Omega.{arith}
-use lib.Dec.{eqb}
+use lib.Dec.{eqb, leb}
 use lib.IntN.{ℤ, pos, negℤ}
 use lib.ListN.{length}
 use borrow.Author.Tests.{not-false}
-use Rattle.model.specs.Limits.{record-size, list-room}
-use Rattle.model.specs.Bounded.{join-in}
+use Rattle.model.specs.Limits.{max-running, record-size, list-room}
+use Rattle.model.specs.Bounded.{all-in, join-in}
 use Rattle.model.specs.Columns.{Device, device-ok}
 use Rattle.model.specs.Tasks.{sized, well-formed}
 use Rattle.model.specs.Book.{Running, Book, holds-cell}
 use Rattle.model.specs.Listing.{ranges, position, named, fitting}
 use Rattle.model.specs.Record.{record-of}
-use Rattle.model.specs.Sound.{within}
+use Rattle.model.specs.Sound.{number-ok, rising, task-ok, apart, book-ok, within}
 use Rattle.model.specs.Calls.{Call, list, choose, Outcome, range-bytes, over, refused, no-position, unless, on-book}
 use Rattle.model.specs.OnRecord.{written, on-record, new}
 use Rattle.model.specs.History.{Trace, trace, on-records, book-of-history}
-use Rattle.model.specs.Laws.Bounded.{In, is-false}
+use Rattle.model.specs.Laws.Bounded.{In, and-to, and5-to, is-false}
 use Rattle.model.specs.Laws.Listing.{listing-names}
 use Rattle.model.specs.Laws.OnCells.{AllOnCells, fitting-cells, nowhere-cells}
 use Rattle.model.specs.Laws.RangeBytes.{ranges-in, read-ranges}
@@ -54,7 +54,8 @@ pub record History (d : Device) (R : Trace (List ℕ)) (B : Trace Book) : Type 0
   pub outputs : R .outputs ≡ B .outputs
   -- "No call finds the record too short, too long or not sound."
   pub no-bad-record : (a : ℤ) → In a (R .answers) → ¬ (a ≡ negℤ (pos 1)) × ¬ (a ≡ negℤ (pos 2))
-  -- "After the list no two running tasks hold one cell"
+  -- "After the list no two running tasks hold one cell"; no number runs twice
+  pub rising : rising (B .final) ≡ true
   pub apart : (e f : Running) → In e (B .final) → In f (B .final) → ¬ (e .number ≡ f .number)
       → (c k : ℕ) → holds-cell d e c k ≡ true → holds-cell d f c k ≡ true → ⊥
   -- "and the record equals the book's, byte for byte"
@@ -131,6 +132,11 @@ from-new d r e cs = let n = begun d r e in rw (n .state) (follows d [] cs (withi
 
 -- ---- after the list
 
+rising-within : (d : Device) (b : Book) → within d b ≡ true → rising b ≡ true
+unfolding within book-ok
+rising-within d b w =
+    and5-to (leb (length b) max-running) (all-in (λ e. number-ok (e .number)) b) (rising b) (all-in (task-ok d) b) (apart d b) (and-to (device-ok d) (book-ok d b) w .1) .2
+
 module _ (d : Device) (b : Book) (w : within d b ≡ true) (t : List ℕ) (s : sized t ≡ true) (f : well-formed t ≡ true) where
   listed : (o : List ℕ) → list-room ≤ length o → (p y : ℕ) → AllOnCells d b t p y → Listed d b (record-of d b) t o (on-record (record-of d b) (list t o))
   unfolding written
@@ -164,6 +170,7 @@ history r rows kinds e cs = after (on-records (new r rows kinds .state) cs) (boo
           answers = h .answers;
           outputs = h .outputs;
           no-bad-record = h .fine;
+          rising = rising-within d (B .final) w;
           apart = apart-cells d (B .final) w;
           same-bytes = h .final;
           listing = λ t o s f l p y c. rw (h .final) (listed d (B .final) w t s f o l p y c);
