@@ -36,3 +36,7 @@ pub mod After
 pub mod Kept
 pub mod Same
 pub mod Freed
+pub mod OnCells
+pub mod RangeBytes
+pub mod Step
+pub mod History
