@@ -1,12 +1,42 @@
--- What is proved of document 01's definitions.
+-- What is proved of document 01's definitions, from the tools up.
 pub mod Bounded
+-- lists and bytes
 pub mod Parts
 pub mod Slots
+-- columns, tasks and where they fit
+pub mod Columns
+pub mod Signed
+pub mod Tasks
+pub mod Fits
+pub mod Steps
+pub mod Limits
+pub mod Cells
+pub mod Split
+pub mod Listing
+-- the record
 pub mod Record
 pub mod Entries
 pub mod ColumnPart
 pub mod Plain
-pub mod Columns
-pub mod Tasks
-pub mod Fits
-pub mod Steps
+pub mod Clauses
+pub mod WriteBack
+pub mod ReadBack
+pub mod Sound
+-- the choice
+pub mod Homes
+pub mod Gaps
+pub mod Pieces
+pub mod Raised
+pub mod Climb
+pub mod Choice
+pub mod Ends
+pub mod NoPosition
+pub mod After
+-- the book after a call
+pub mod Kept
+pub mod Same
+pub mod Freed
+pub mod OnCells
+pub mod RangeBytes
+pub mod Step
+pub mod History

@@ -14,4 +14,5 @@ pub mod OnRecord
 pub mod History
 pub mod Sheet
 pub mod SmallCards
+pub mod SheetLines
 pub mod Laws

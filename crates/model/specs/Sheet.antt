@@ -1,10 +1,11 @@
--- Document 01, "The sheet": how a line is read. A line that is read as nothing is malformed: −12. Bytes are written as numbers; the comments show
--- the letters. Assumes nothing.
-use Prim.Native.Nat.{ℕ, zero, suc, _+_, _-_, _*_}
+-- Document 01, "The sheet": how a line is read, and how a line of output is printed. A line that is read as nothing is malformed: −12. Assumes nothing.
+use Prim.Native.Nat.{ℕ, zero, suc, _+_, _-_, _*_, _/_, _%_}
+use Prim.Native.Char.{code}
+use Prim.Native.String.{String, [] as end, _∷_ as _then_}
 use mathlib.Core.Bool.{Bool, true, false, not, cond, _&&_, _||_}
 use mathlib.Core.Option.{Option, none, some}
 use mathlib.Core.List.{List, [], _∷_, _++_}
-use lib.Dec.{leb, eqb}
+use lib.Dec.{leb, ltb, eqb}
 use lib.IntN.{ℤ, pos, negsuc}
 use lib.Signed.{leZ}
 use lib.ListN.{length, getD}
@@ -22,6 +23,11 @@ abbrev pub provided : {A : Type 0} → Bool → A → Option A
 provided true x = some x
 provided false x = none
 
+-- the bytes of a text
+abbrev pub text : String → List ℕ
+text end = []
+text (_then_ c s) = code c ∷ text s
+
 -- ---- fields
 
 -- the byte x in front of the first field
@@ -32,7 +38,7 @@ grown x (f ∷ fs) = (x ∷ f) ∷ fs
 -- "Fields are parted by one space": what stands between the spaces
 unfoldable pub fields : List ℕ → List (List ℕ)
 fields [] = [] ∷ []
-fields (x ∷ l) = let rest = fields l in cond (eqb x 32) ([] ∷ rest) (grown x rest)
+fields (x ∷ l) = let rest = fields l in cond (eqb x (code " ")) ([] ∷ rest) (grown x rest)
 
 -- the field is the one byte x
 unfoldable pub is : ℕ → List ℕ → Bool
@@ -40,19 +46,18 @@ is x f = eqb (length f) 1 && eqb (getD f 0 0) x
 
 -- ---- "Numbers read and printed are decimal, without plus sign, leading zero or "-0"."
 
--- 0 to 9
 unfoldable pub digit : ℕ → Bool
-digit x = leb 48 x && leb x 57
+digit x = leb (code "0") x && leb x (code "9")
 
 -- the number that the digits add to v
 unfoldable pub decimal : ℕ → List ℕ → ℕ
 decimal v [] = v
-decimal v (x ∷ l) = decimal (10 * v + (x - 48)) l
+decimal v (x ∷ l) = decimal (10 * v + (x - code "0")) l
 
 -- one or more digits, of which the first is no 0 unless it stands alone
 unfoldable pub natural : List ℕ → Option ℕ
 natural [] = none
-natural (x ∷ l) = provided (all-in digit (x ∷ l) && (not (eqb x 48) || eqb (length l) 0)) (decimal 0 (x ∷ l))
+natural (x ∷ l) = provided (all-in digit (x ∷ l) && (not (eqb x (code "0")) || eqb (length l) 0)) (decimal 0 (x ∷ l))
 
 -- with a minus sign: there is no "-0"
 abbrev pub negated : Option ℕ → Option ℤ
@@ -60,10 +65,10 @@ negated none = none
 negated (some zero) = none
 negated (some (suc n)) = some (negsuc n)
 
--- with no sign, or with a minus sign, "-"
+-- with no sign, or with a minus sign
 unfoldable pub number : List ℕ → Option ℤ
 number [] = none
-number (x ∷ l) = let plain = with-some (natural (x ∷ l)) (λ n. some (pos n)) in cond (eqb x 45) (negated (natural l)) plain
+number (x ∷ l) = let plain = with-some (natural (x ∷ l)) (λ n. some (pos n)) in cond (eqb x (code "-")) (negated (natural l)) plain
 
 -- a number from 0 to `most`
 unfoldable pub natural-field : ℕ → List ℕ → Option ℕ
@@ -84,9 +89,9 @@ pub data SheetCall : Type 0 where
   place-draft : (task column : ℕ) (bottom : ℤ) → SheetCall  -- "P places the draft (task, column, bottom)"
   release-task : (task : ℕ) → SheetCall  -- "R releases (task)"
 
--- the kind of a letter, C, B or D
+-- the kind of a letter
 unfoldable pub kind-letter : ℕ → Option ℕ
-kind-letter x = cond (eqb x 67) (some kind-C) (cond (eqb x 66) (some kind-B) (cond (eqb x 68) (some kind-D) none))
+kind-letter x = cond (eqb x (code "C")) (some kind-C) (cond (eqb x (code "B")) (some kind-B) (cond (eqb x (code "D")) (some kind-D) none))
 
 unfoldable pub kind-field : List ℕ → Option ℕ
 kind-field f = cond (eqb (length f) 1) (kind-letter (getD f 0 0)) none
@@ -99,13 +104,13 @@ nought (negsuc n) = false
 -- the call that a line's fields say, with its numbers read: each letter with the fields that it leaves unused
 unfoldable pub call-of : List ℕ → ℕ → ℕ → List ℕ → ℤ → ℤ → Option SheetCall
 call-of letter task column kind bottom top =
-    let none-used = eqb task 0 && eqb column 0 && is 45 kind && nought bottom && nought top in
-    cond (is 66 letter) (with-some (kind-field kind) (λ k. provided (eqb task 0) (add-block column k bottom top)))  -- B
-    (cond (is 78 letter) (provided none-used empty-draft)  -- N
-    (cond (is 76 letter) (provided none-used list-draft)  -- L
-    (cond (is 67 letter) (provided none-used choose-draft)  -- C
-    (cond (is 80 letter) (provided (is 45 kind && nought top) (place-draft task column bottom))  -- P
-    (cond (is 82 letter) (provided (eqb column 0 && is 45 kind && nought bottom && nought top) (release-task task))  -- R
+    let none-used = eqb task 0 && eqb column 0 && is (code "-") kind && nought bottom && nought top in
+    cond (is (code "B") letter) (with-some (kind-field kind) (λ k. provided (eqb task 0) (add-block column k bottom top)))
+    (cond (is (code "N") letter) (provided none-used empty-draft)
+    (cond (is (code "L") letter) (provided none-used list-draft)
+    (cond (is (code "C") letter) (provided none-used choose-draft)
+    (cond (is (code "P") letter) (provided (is (code "-") kind && nought top) (place-draft task column bottom))
+    (cond (is (code "R") letter) (provided (eqb column 0 && is (code "-") kind && nought bottom && nought top) (release-task task))
     none)))))
 
 -- the line "call task column kind bottom top" as numbers and letters
@@ -123,15 +128,11 @@ sheet-line l = let read = six (fields l) in cond (leb (length l) max-line && eqb
 
 -- ---- the first three lines
 
--- "rows kinds"
 abbrev pub first-names : List ℕ
-first-names = 114 ∷ 111 ∷ 119 ∷ 115 ∷ 32 ∷ 107 ∷ 105 ∷ 110 ∷ 100 ∷ 115 ∷ []
+first-names = text "rows kinds"
 
--- "call task column kind bottom top"
 abbrev pub second-names : List ℕ
-second-names =
-    (99 ∷ 97 ∷ 108 ∷ 108 ∷ 32 ∷ []) ++ (116 ∷ 97 ∷ 115 ∷ 107 ∷ 32 ∷ []) ++ (99 ∷ 111 ∷ 108 ∷ 117 ∷ 109 ∷ 110 ∷ 32 ∷ [])
-    ++ (107 ∷ 105 ∷ 110 ∷ 100 ∷ 32 ∷ []) ++ (98 ∷ 111 ∷ 116 ∷ 116 ∷ 111 ∷ 109 ∷ 32 ∷ []) ++ (116 ∷ 111 ∷ 112 ∷ [])
+second-names = text "call task column kind bottom top"
 
 -- the kinds of some letters
 unfoldable pub kind-letters : List ℕ → Option (List ℕ)
@@ -149,3 +150,24 @@ device-line l =
     let read : Option Device = with-some (natural-field max-number (getD (fields l) 0 [])) (λ rows. with-some (kinds-field (getD (fields l) 1 [])) (λ kinds.
     some (record { rows = rows; kinds = kinds }))) in
     cond (leb (length l) max-line && eqb (length (fields l)) 2) read none
+
+-- ---- printing
+
+-- the decimal digits of n, without leading zero, for n below 10 to the power of `more` + 1
+unfoldable pub digits : ℕ → ℕ → List ℕ
+digits zero n = (code "0" + n) ∷ []
+digits (suc more) n = let front = digits more (n / 10) in cond (ltb n 10) ((code "0" + n) ∷ []) (front ++ ((code "0" + n % 10) ∷ []))
+
+-- a number as it is printed: ten digits are enough for every answer
+unfoldable pub shown : ℤ → List ℕ
+shown (pos n) = digits 9 n
+shown (negsuc n) = code "-" ∷ digits 9 (suc n)
+
+abbrev pub output-names : List ℕ
+output-names = text "line answer column first step last"
+
+-- "input line, answer, and for each range its column, first, step, last, else zeros", with its newline
+unfoldable pub output-line : ℕ → ℤ → ℕ → ℕ → ℕ → ℕ → List ℕ
+output-line line answer column first step last =
+    shown (pos line) ++ text " " ++ shown answer ++ text " " ++ shown (pos column) ++ text " " ++ shown (pos first) ++ text " " ++ shown (pos step)
+    ++ text " " ++ shown (pos last) ++ text "\n"

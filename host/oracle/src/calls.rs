@@ -16,10 +16,7 @@ pub fn answer(result: Result<i32, Refusal>) -> i32 {
 
 /// The book of a sound record, or −1 or −2.
 pub fn book_of(record: &[u8]) -> Result<Book, Refusal> {
-    if record.len() != RECORD_BYTES {
-        return Err(Refusal::RecordLength);
-    }
-    sound::read(record).map_err(|_| Refusal::RecordNotSound)
+    sound::read(record).map_err(Refusal::from)
 }
 
 /// New: writes the record with all cells free. Answers 0, −1 or −3.

@@ -2,9 +2,12 @@
 
 use crate::device::{Device, MAX_COLUMNS};
 
+/// The most cells that a column has: 128 rows of kind C.
+pub const MAX_CELLS: usize = 128;
+
 /// A set of cells, each named by its column and its place in the column.
 ///
-/// One word for each column, one bit for each cell: no column has over 128 cells.
+/// One word for each column, one bit for each cell.
 #[derive(Clone, Debug, PartialEq, Eq)]
 pub struct CellSet {
     words: [u128; MAX_COLUMNS],
@@ -29,21 +32,28 @@ impl CellSet {
         set
     }
 
-    /// Whether the cell is in the set.
+    /// Whether the cell is in the set; a cell that no device has never is.
     pub fn contains(&self, column: usize, cell: usize) -> bool {
-        self.words[column] >> cell & 1 == 1
+        let word = self.words.get(column).copied().unwrap_or(0);
+        cell < MAX_CELLS && word >> cell & 1 == 1
     }
 
     /// Adds a cell; answers whether it was not there before.
+    ///
+    /// # Panics
+    /// When no device has such a cell: column over 63 or cell over 127.
     pub fn insert(&mut self, column: usize, cell: usize) -> bool {
+        assert!(cell < MAX_CELLS, "no device has such a cell");
         let is_new = !self.contains(column, cell);
         self.words[column] |= 1 << cell;
         is_new
     }
 
-    /// Takes a cell out.
+    /// Takes a cell out; nothing happens when it is not there.
     pub fn remove(&mut self, column: usize, cell: usize) {
-        self.words[column] &= !(1 << cell);
+        if self.contains(column, cell) {
+            self.words[column] &= !(1 << cell);
+        }
     }
 
     /// How many cells are in the set.

@@ -18,7 +18,9 @@ pub struct Position {
 impl Position {
     /// The number that choose answers: column × 1,024 + bottom.
     pub fn answer(self) -> i32 {
-        self.column as i32 * 1024 + self.bottom
+        // Nothing wraps for positions on a device, and choose answers no others.
+        let column = self.column as i32;
+        column.wrapping_mul(1024).wrapping_add(self.bottom)
     }
 }
 

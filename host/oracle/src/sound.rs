@@ -6,12 +6,14 @@
 
 use std::collections::BTreeMap;
 use std::fmt;
+use std::ops::Range;
 
 use crate::book::{Book, Running, MAX_RUNNING};
 use crate::cells::CellSet;
 use crate::device::{Device, MAX_COLUMNS, MAX_ROWS};
 use crate::fit::{cells_of, Position};
 use crate::layout::*;
+use crate::refusal::Refusal;
 use crate::task::{Task, BLOCK_BYTES, MAX_BLOCKS};
 
 /// The first sentence found that does not hold of a record.
@@ -54,6 +56,16 @@ impl fmt::Display for Unsound {
 }
 
 impl std::error::Error for Unsound {}
+
+/// The table's refusal: a wrong length is −1, all else is −2.
+impl From<Unsound> for Refusal {
+    fn from(unsound: Unsound) -> Refusal {
+        match unsound {
+            Unsound::Length => Refusal::RecordLength,
+            _ => Refusal::RecordNotSound,
+        }
+    }
+}
 
 /// Judges the bytes and reads a sound record's device and book.
 pub fn read(record: &[u8]) -> Result<Book, Unsound> {
@@ -191,7 +203,7 @@ fn maximal_free_run(
     column: usize,
     bottom: i64,
     top: i64,
-) -> Option<std::ops::Range<usize>> {
+) -> Option<Range<usize>> {
     let height = device.kind(column)?.height();
     let are_cells = bottom % height == 0 && top % height == 0;
     if !are_cells || bottom >= top || top > device.top_of_last_cell(column) {

@@ -80,7 +80,7 @@ impl Task {
     /// Reads a task, or refuses with −4 (its length) or −5 (not well-formed).
     pub fn from_bytes(bytes: &[u8]) -> Result<Task, Refusal> {
         let too_long = bytes.len() > MAX_BLOCKS * BLOCK_BYTES;
-        if bytes.is_empty() || too_long || bytes.len() % BLOCK_BYTES != 0 {
+        if bytes.is_empty() || too_long || !bytes.len().is_multiple_of(BLOCK_BYTES) {
             return Err(Refusal::TaskLength);
         }
         let blocks = read_blocks(bytes).ok_or(Refusal::TaskNotWellFormed)?;

@@ -16,11 +16,13 @@ use Rattle.model.specs.Laws.Parts.{splice, part-part, getD-part, join-co
 use Rattle.model.specs.Laws.Slots.{length-slot, part-slots, slot-map, padded-full, slots-set, slots-push}
 use Rattle.model.specs.Laws.Record.{word-is, record-column}
 
+-- a two-byte number of a part
 pub word-part : (r : List ℕ) (at n i : ℕ) → i + 1 < n → word (part r at n) i ≡ word r (at + i)
 unfolding word
 word-part r at n i h = rw (getD-part r at n i 0 (omega arith), getD-part r at n (i + 1) 0 h, add-assoc)
 
 module _ (is : List Interval) (i : ℕ) (d : Interval) (q : i < length is) (few : length is ≤ max-intervals) where
+  -- interval i's bytes, its bottom and its top
   pub interval-piece : part (column-part is) (interval-size * i) interval-size ≡ interval-bytes (getD is i d)
   unfolding column-part
   interval-piece =
@@ -42,7 +44,8 @@ module _ (is : List Interval) (i : ℕ) (d : Interval) (q : i < length is) (few 
       ∙ ap (λ p. word p 2) interval-piece ∙ word-is (interval-bytes (getD is i d)) 2 (getD is i d .top) h refl refl
 
 -- the intervals' own bytes, at the front of the part
-pub column-front : (is : List Interval) (d : Interval) → length is ≤ max-intervals → part (column-part is) 0 (length is * interval-size) ≡ join-below (length is) (λ i. interval-bytes (getD is i d))
+pub column-front : (is : List Interval) (d : Interval) → length is ≤ max-intervals
+    → part (column-part is) 0 (length is * interval-size) ≡ join-below (length is) (λ i. interval-bytes (getD is i d))
 unfolding column-part slots
 column-front is d few =
     part-join-front (slot interval-size (map interval-bytes is)) interval-size max-intervals (length is) (λ i q. length-slot interval-size (map interval-bytes is) i) few
@@ -69,13 +72,17 @@ map-push : (l : List Interval) (x : Interval) → map interval-bytes (l ++ (x �
 map-push [] x = refl
 map-push (y ∷ l) x = ap (λ m. interval-bytes y ∷ m) (map-push l x)
 
-pub column-set : (is : List Interval) (i : ℕ) (x : Interval) → i < max-intervals → i < length is → splice (column-part is) (interval-size * i) interval-size (interval-bytes x) ≡ column-part (set is i x)
+-- interval i replaced
+pub column-set : (is : List Interval) (i : ℕ) (x : Interval) → i < max-intervals → i < length is
+    → splice (column-part is) (interval-size * i) interval-size (interval-bytes x) ≡ column-part (set is i x)
 unfolding column-part
 column-set is i x q h =
     slots-set max-intervals interval-size (map interval-bytes is) i (interval-bytes x) q (omega (arith, length-map is interval-bytes)) (unfold interval-bytes bytes16 in refl)
     ∙ ap (slots max-intervals interval-size) (sym (map-set is i x))
 
-pub column-push : (is : List Interval) (x : Interval) → length is < max-intervals → splice (column-part is) (interval-size * length is) interval-size (interval-bytes x) ≡ column-part (is ++ (x ∷ []))
+-- one more interval
+pub column-push : (is : List Interval) (x : Interval) → length is < max-intervals
+    → splice (column-part is) (interval-size * length is) interval-size (interval-bytes x) ≡ column-part (is ++ (x ∷ []))
 unfolding column-part
 column-push is x q =
     rw (map-push is x, ← length-map is interval-bytes)

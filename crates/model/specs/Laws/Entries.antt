@@ -1,22 +1,21 @@
 -- The entries of a record when a task is put into the book and when one is taken out. Assumes nothing.
-use Prim.Native.Nat.{ℕ, zero, suc, _-_, _*_, _%_, _≤_, _<_}
+use Prim.Native.Nat.{ℕ, zero, suc, _-_, _≤_, _<_}
 use mathlib.Core.Path.{_≡_, refl, sym, ap, _∙_}
-use mathlib.Core.Bool.{Bool, true, false, not, cond, _||_}
+use mathlib.Core.Bool.{Bool, true, false, cond, _||_}
 use mathlib.Core.List.{List, [], _∷_, _++_, map}
 use native.Mathlib.Omega.{arith}
-use lib.Dec.{eqb, ltb, leb}
-use borrow.Author.Tests.{eq-eqb, eqb-true, leb-true}
+use lib.Dec.{eqb, ltb}
+use borrow.Author.Tests.{eq-eqb}
 use lib.ListN.{length, getD, set, take, drop, replicate, length-map}
 use lib.Seq.{split-at}
-use Rattle.model.specs.Limits.{max-running, max-blocks, block-size, running-at, entry-size}
+use Rattle.model.specs.Limits.{max-running, running-at, entry-size}
 use Rattle.model.specs.Bounded.{any-in}
 use Rattle.model.specs.Columns.{Device}
-use Rattle.model.specs.Tasks.{blocks, sized}
 use Rattle.model.specs.Book.{Running, Book}
 use Rattle.model.specs.Record.{bytes16, padded, entry-bytes, head-bytes, entry-part}
 use Rattle.model.specs.Calls.{insert, without, runs-in}
-use Rattle.model.specs.Laws.Bounded.{and3-to, clash}
 use Rattle.model.specs.Laws.Parts.{changed}
+use Rattle.model.specs.Laws.Bounded.{map-append}
 use Rattle.model.specs.Laws.Slots.{raised, lowered, slot-insert, slot-remove}
 use Rattle.model.specs.Laws.Record.{Reads, reads-head, reads-cong, no-entry}
 
@@ -25,6 +24,7 @@ unfoldable pub place : ℕ → Book → ℕ
 place n [] = 0
 place n (f ∷ b) = cond (ltb n (f .number)) 0 (suc (place n b))
 
+-- an entry put in stands between those below its place and the others
 pub insert-split : (e : Running) (b : Book) → insert e b ≡ take (place (e .number) b) b ++ e ∷ drop (place (e .number) b) b
 unfolding insert place
 insert-split e [] = refl
@@ -35,10 +35,11 @@ insert-split e (f ∷ b) = go (ltb (e .number) (f .number)) (insert-split e b)
     go true ih = refl
     go false ih = ap (λ l. f ∷ l) ih
 
-pub or-none : (a b : Bool) → (a || b) ≡ false → (a ≡ false) × (b ≡ false)
+or-none : (a b : Bool) → (a || b) ≡ false → (a ≡ false) × (b ≡ false)
 or-none true b h = (h, cc)
 or-none false b h = (refl, h)
 
+-- a number that does not run
 pub without-none : (n : ℕ) (b : Book) → runs-in b n ≡ false → without n b ≡ b
 unfolding without runs-in any-in
 without-none n [] h = refl
@@ -46,6 +47,7 @@ without-none n (f ∷ b) h =
     let o = or-none (eqb (f .number) n) (runs-in b n) h in
     rw (o .0) (ap (λ l. f ∷ l) (without-none n b (o .1)))
 
+-- THEOREM: the one entry of that number is taken out, and the others stay in their order
 pub without-split : (n : ℕ) (u v : Book) (e : Running) → e .number ≡ n → runs-in u n ≡ false → runs-in v n ≡ false → without n (u ++ e ∷ v) ≡ u ++ v
 unfolding without runs-in any-in
 without-split n [] v e p hu hv = rw (eq-eqb (e .number) n p) (without-none n v hv)
@@ -53,10 +55,12 @@ without-split n (f ∷ u) v e p hu hv =
     let o = or-none (eqb (f .number) n) (runs-in u n) hu in
     rw (o .0) (ap (λ l. f ∷ l) (without-split n u v e p (o .1) hv))
 
+-- the same, by the place of the entry
 pub without-at : (n : ℕ) (b : Book) (k : ℕ) → k < length b → getD b k no-entry .number ≡ n → runs-in (take k b) n ≡ false → runs-in (drop (suc k) b) n ≡ false
     → without n b ≡ take k b ++ drop (suc k) b
 without-at n b k q p hu hv = ap (without n) (split-at b k no-entry q) ∙ without-split n (take k b) (drop (suc k) b) (getD b k no-entry) p hu hv
 
+-- one entry more
 pub length-insert : (e : Running) (b : Book) → length (insert e b) ≡ suc (length b)
 unfolding insert
 length-insert e [] = refl
@@ -66,6 +70,7 @@ length-insert e (f ∷ b) = go (ltb (e .number) (f .number)) (length-insert e b)
     go true h = refl
     go false h = ap suc h
 
+-- the place is in the book, or at its end
 pub place-le : (n : ℕ) (b : Book) → place n b ≤ length b
 unfolding place
 place-le n [] = omega arith
@@ -76,10 +81,6 @@ place-le n (f ∷ b) = go (ltb n (f .number)) (place-le n b)
     go false h = omega arith
 
 module _ {ℓ κ} {A : Type ℓ} {B : Type κ} (f : A → B) where
-  map-append : (u v : List A) → map f (u ++ v) ≡ map f u ++ map f v
-  map-append [] v = refl
-  map-append (x ∷ u) v = ap (λ l. f x ∷ l) (map-append u v)
-
   map-take : (i : ℕ) (l : List A) → map f (take i l) ≡ take i (map f l)
   map-take zero l = refl
   map-take (suc i) [] = refl
@@ -106,17 +107,8 @@ entry-remove b k j q =
     (slot-remove entry-size (map entry-bytes b) k j (omega (arith, length-map b entry-bytes))))
 
 -- the runs-in byte and the entries say another book
-pub reads-book : (d : Device) (b b′ : Book) (v : ℕ) {r : List ℕ} {kinds counts : ℕ → ℕ} {columns entries : ℕ → List ℕ} → Reads r (head-bytes d b) kinds counts columns entries
+pub reads-book : (d : Device) (b b′ : Book) (v : ℕ) {r : List ℕ} {kinds counts : ℕ → ℕ} {columns entries : ℕ → List ℕ}
+    → Reads r (head-bytes d b) kinds counts columns entries
     → v ≡ length b′ → ((j : ℕ) → j < max-running → entries j ≡ entry-part b′ j) → Reads (set r running-at v) (head-bytes d b′) kinds counts columns (entry-part b′)
 unfolding head-bytes bytes16
 reads-book d b b′ v x e h = reads-cong (reads-head x running-at v (omega arith)) (rw e) (λ c q. refl) (λ c q. refl) (λ c q. refl) h
-
--- a task of a task's size fills whole blocks, at most 32
-pub whole-task : (t : List ℕ) → sized t ≡ true → (length t ≡ block-size * blocks t) × (1 ≤ blocks t) × (blocks t ≤ max-blocks)
-unfolding sized blocks
-whole-task t h =
-    let (some, short, whole) = and3-to (not (eqb (length t) 0)) (leb (length t) (block-size * max-blocks)) (eqb (length t % block-size) 0) h in
-    let six : length t % block-size ≡ 0 = eqb-true (length t % block-size) 0 whole in
-    let few : length t ≤ block-size * max-blocks = leb-true (length t) (block-size * max-blocks) short in
-    let one : ¬ (length t ≡ 0) = λ e. clash some (ap not (eq-eqb (length t) 0 e)) in
-    (omega arith, omega arith, omega arith)

@@ -24,6 +24,7 @@ changed f c v i = cond (eqb i c) v (f i)
 unfoldable pub upto {ℓ} : {A : Type ℓ} → ℕ → (ℕ → A) → (ℕ → A) → ℕ → A
 upto n f g i = cond (ltb i n) (f i) (g i)
 
+-- at c it is v, and elsewhere f
 pub changed-same {ℓ} : {A : Type ℓ} (f : ℕ → A) (c : ℕ) (v : A) → changed f c v c ≡ v
 unfolding changed
 changed-same f c v = rw (eq-eqb c c refl)
@@ -59,13 +60,19 @@ module _ {ℓ} {A : Type ℓ} where
 
   -- ---- parts
 
+  -- a part that lies in r has its length
   pub length-part : (r : List A) (at n : ℕ) → at + n ≤ length r → length (part r at n) ≡ n
   unfolding part
   length-part r at n h = length-take-le n (drop at r) (omega (arith, length-drop at r))
 
+  -- an element of a part is an element of r
   pub getD-part : (r : List A) (at n i : ℕ) (d : A) → i < n → getD (part r at n) i d ≡ getD r (at + i) d
   unfolding part
   getD-part r at n i d h = rw (getD-take, getD-drop)
+
+  -- an element of r, in a part of it
+  pub part-byte : (r : List A) (at n i : ℕ) (d : A) → at ≤ i → i < at + n → getD r i d ≡ getD (part r at n) (i - at) d
+  part-byte r at n i d h q = let e : i ≡ at + (i - at) = omega arith in ap (λ k. getD r k d) e ∙ sym (getD-part r at n (i - at) d (omega arith))
 
   drop-take : (i n : ℕ) (l : List A) → drop i (take n l) ≡ take (n - i) (drop i l)
   drop-take zero n l = rw sub-zero
@@ -73,14 +80,17 @@ module _ {ℓ} {A : Type ℓ} where
   drop-take (suc i) (suc n) [] = sym (take-nil (suc n - suc i))
   drop-take (suc i) (suc n) (x ∷ xs) = rw suc-sub-suc (drop-take i n xs)
 
+  -- a part of a part is a part
   pub part-part : (r : List A) (at n i m : ℕ) → i + m ≤ n → part (part r at n) i m ≡ part r (at + i) m
   unfolding part
   part-part r at n i m h = rw (drop-take, drop-drop) (take-take m (n - i) (drop (at + i) r) (omega arith))
 
+  -- the part from 0 on is all of r
   pub part-all : (r : List A) (n : ℕ) → length r ≤ n → part r 0 n ≡ r
   unfolding part
   part-all r n h = take-all n r h
 
+  -- a part of the first of two
   pub part-left : (a b : List A) (at n : ℕ) → at + n ≤ length a → part (a ++ b) at n ≡ part a at n
   unfolding part
   part-left a b at n h = rw (drop-append-le at a b (omega arith)) (take-append-le n (drop at a) b (omega (arith, length-drop at a)))
@@ -95,6 +105,7 @@ module _ {ℓ} {A : Type ℓ} where
   unfolding part
   part-end a b at n p q = rw (drop-at a b at p) (take-all n b (omega arith))
 
+  -- a part of one element, and an element as a part
   pub part-one : (r : List A) (i : ℕ) (d : A) → i < length r → part r i 1 ≡ getD r i d ∷ []
   unfolding part
   part-one r i d h = rw (drop-cons r i d)
@@ -104,12 +115,14 @@ module _ {ℓ} {A : Type ℓ} where
 
   -- ---- pieces of one length, one after the other
 
+  -- pieces that are the same one by one
   pub join-cong : (f g : ℕ → List A) (n : ℕ) → ((i : ℕ) → i < n → f i ≡ g i) → join-below n f ≡ join-below n g
   unfolding join-below
   join-cong f g zero h = refl
   join-cong f g (suc n) h = ap₂ _++_ (join-cong f g n (λ i q. h i (omega arith))) (h n (omega arith))
 
   module _ (f : ℕ → List A) (k : ℕ) where
+    -- n pieces of k elements have n * k, and piece c stands at k * c
     pub length-join : (n : ℕ) → ((i : ℕ) → i < n → length (f i) ≡ k) → length (join-below n f) ≡ n * k
     unfolding join-below
     length-join zero h = omega arith
@@ -141,6 +154,7 @@ module _ {ℓ} {A : Type ℓ} where
       rw (e, ← drop-drop (i - a) a r, ← drop-drop (i - a) a s, p)
 
   module _ (r : List A) (at n : ℕ) (v : List A) (fits : at + n ≤ length r) (same : length v ≡ n) where
+    -- a part replaced by one of its length: the length stays, the part is the new one, and other parts stay
     pub length-splice : length (splice r at n v) ≡ length r
     unfolding splice
     length-splice = rw (length-append, length-append) (omega (arith, length-take-le at r (omega arith), length-drop n (drop at r), length-drop at r))
@@ -163,6 +177,7 @@ module _ {ℓ} {A : Type ℓ} where
         rw (← append-assoc (take at r) v rest) (drop-at (take at r ++ v) rest (at + n) (rw length-append (omega (arith, length-take-le at r (omega arith)))) ∙ drop-drop n at r) in
         ap (take m) (drop-past (splice r at n v) r (at + n) i h e)
 
+    -- other elements stay
     pub getD-splice-below : (i : ℕ) (d : A) → i < at → getD (splice r at n v) i d ≡ getD r i d
     getD-splice-below i d h = rw (getD-one (splice r at n v) i d, getD-one r i d, part-splice-below i 1 (omega arith))
 
@@ -176,24 +191,34 @@ module _ {ℓ} {A : Type ℓ} where
 
   -- ---- bytes: pieces of one element
 
+  -- a list of n elements, and its element c
+  pub length-list : (f : ℕ → A) (n : ℕ) → length (list-below n f) ≡ n
+  length-list f n = omega (arith, length-join (λ i. f i ∷ []) 1 n (λ i q. refl))
+
   pub getD-list : (f : ℕ → A) (n c : ℕ) (d : A) → c < n → getD (list-below n f) c d ≡ f c
   getD-list f n c d q =
       let e : 1 * c + 0 ≡ c = omega arith in
       (rw e at (sym (getD-part (list-below n f) (1 * c) 1 0 d (omega arith)))) ∙ ap (λ p. getD p 0 d) (part-join (λ i. f i ∷ []) 1 n c (λ i q. refl) q)
 
+  -- a part, and a list, by its elements
   pub list-parts : (r : List A) (at n : ℕ) (d : A) → at + n ≤ length r → list-below n (λ i. getD r (at + i) d) ≡ part r at n
   list-parts r at n d h =
       join-cong (λ i. getD r (at + i) d ∷ []) (λ i. part r (at + 1 * i) 1) n (λ i q. let e : 1 * i ≡ i = omega arith in rw e (sym (part-one r (at + i) d (omega arith))))
       ∙ (rw mul-one at (join-parts r at 1 n))
+
+  pub list-is : (r : List A) (at n : ℕ) (f : ℕ → A) (d : A) → at + n ≤ length r → ((i : ℕ) → i < n → getD r (at + i) d ≡ f i) → part r at n ≡ list-below n f
+  list-is r at n f d h e = sym (list-parts r at n d h) ∙ join-cong (λ i. getD r (at + i) d ∷ []) (λ i. f i ∷ []) n (λ i q. ap (λ x. x ∷ []) (e i q))
 
   pub listed : (l : List A) (d : A) → list-below (length l) (λ i. getD l i d) ≡ l
   listed l d = (simp zero-add at (list-parts l 0 (length l) d (omega arith))) ∙ part-all l (length l) (omega arith)
 
   -- ---- tables in the middle of a list
 
+  -- element c of a part that is a list
   pub byte-of : (r : List A) (at n : ℕ) (f : ℕ → A) (c : ℕ) (d : A) → part r at n ≡ list-below n f → c < n → getD r (at + c) d ≡ f c
   byte-of r at n f c d h q = sym (getD-part r at n c d q) ∙ ap (λ l. getD l c d) h ∙ getD-list f n c d q
 
+  -- piece c of a part that is a table
   pub piece-of : (r : List A) (at k n : ℕ) (f : ℕ → List A) (c : ℕ) → part r at (n * k) ≡ join-below n f → ((i : ℕ) → i < n → length (f i) ≡ k) → c < n
       → part r (at + k * c) k ≡ f c
   piece-of r at k n f c h l q =
@@ -218,7 +243,9 @@ module _ {ℓ} {A : Type ℓ} where
     pub d-is : part r (p + q + s) t ≡ d
     pub e-is : part r (p + q + s + t) u ≡ e
 
-  pub cut : (a b c d e : List A) (p q s t u : ℕ) → length a ≡ p → length b ≡ q → length c ≡ s → length d ≡ t → length e ≡ u → Cut (a ++ b ++ c ++ d ++ e) a b c d e p q s t u
+  -- from five lists to their parts
+  pub cut : (a b c d e : List A) (p q s t u : ℕ) → length a ≡ p → length b ≡ q → length c ≡ s → length d ≡ t → length e ≡ u
+      → Cut (a ++ b ++ c ++ d ++ e) a b c d e p q s t u
   cut a b c d e p q s t u la lb lc ld le =
       let r : List A = a ++ b ++ c ++ d ++ e in
       let ga : r ≡ [] ++ (a ++ (b ++ c ++ d ++ e)) = simp append-assoc in
@@ -234,10 +261,12 @@ module _ {ℓ} {A : Type ℓ} where
         e-is = part-end (a ++ b ++ c ++ d) e (p + q + s + t) u (simp length-append (omega arith)) le;
       }
 
+  -- a part in two
   pub part-add : (r : List A) (at n m : ℕ) → part r at (n + m) ≡ part r at n ++ part r (at + n) m
   unfolding part
   part-add r at n m = rw (take-add n m (drop at r), drop-drop n at r)
 
+  -- and back
   pub uncut : (r a b c d e : List A) (p q s t u : ℕ) → Cut r a b c d e p q s t u → r ≡ a ++ b ++ c ++ d ++ e
   uncut r a b c d e p q s t u x =
       sym (part-all r (p + q + s + t + u) (omega arith)) ∙ simp (part-add, zero-add, x .a-is, x .b-is, x .c-is, x .d-is, x .e-is)
@@ -255,6 +284,7 @@ module _ {ℓ} {A : Type ℓ} where
         ])
       ]
 
+  -- one piece of a table replaced
   pub splice-join : (f : ℕ → List A) (k n c : ℕ) (v : List A) → ((i : ℕ) → i < n → length (f i) ≡ k) → length v ≡ k → c < n
       → splice (join-below n f) (k * c) k v ≡ join-below n (changed f c v)
   splice-join f k n c v l lv q =
@@ -272,6 +302,7 @@ module _ {ℓ} {A : Type ℓ} where
         | no ne ↦ rw (changed-other f c i v ne) (getD-set-other r (at + c) (at + i) v d (omega arith) ∙ h i p)
       ]
 
+  -- a store outside a part
   pub part-set-below : (r : List A) (i : ℕ) (v : A) (at n : ℕ) → at + n ≤ i → i < length r → part (set r i v) at n ≡ part r at n
   part-set-below r i v at n h q = rw (set-splice r i v q) (part-splice-below r i 1 (v ∷ []) (omega arith) refl at n h)
 
@@ -285,17 +316,20 @@ module _ {ℓ} {A : Type ℓ} where
 
   -- ---- a part written from its start on, element by element
 
+  -- nothing written, and one more element written
   pub splice-none : (r : List A) (at : ℕ) → splice r at 0 [] ≡ r
   unfolding splice
   splice-none r at = take-append-drop at r
 
-  pub splice-grow : (r : List A) (at n : ℕ) (v : List A) (x : A) → at + n < length r → length v ≡ n → set (splice r at n v) (at + n) x ≡ splice r at (n + 1) (v ++ (x ∷ []))
+  pub splice-grow : (r : List A) (at n : ℕ) (v : List A) (x : A) → at + n < length r → length v ≡ n
+      → set (splice r at n v) (at + n) x ≡ splice r at (n + 1) (v ++ (x ∷ []))
   unfolding splice
   splice-grow r at n v x h l =
       let rest = drop (suc n) (drop at r) in
       rw (add-one, drop-cons (drop at r) n x (omega (arith, length-drop at r)), ← append-assoc (take at r) v (getD (drop at r) n x ∷ rest))
       (set-at (take at r ++ v) (getD (drop at r) n x) rest x (at + n) (rw length-append (omega (arith, length-take-le at r (omega arith)))) ∙ simp append-assoc)
 
+  -- a part that is longer by one
   pub part-grow : (r : List A) (at n : ℕ) (d : A) → at + n < length r → part r at (n + 1) ≡ part r at n ++ (getD r (at + n) d ∷ [])
   part-grow r at n d h = rw (part-add r at n 1, part-one r (at + n) d h)
 
@@ -313,7 +347,8 @@ module _ {ℓ} {A : Type ℓ} where
       rw (e, same, part-grow r₀ a i d (omega arith)) (splice-grow r₀ b i v (getD r₀ (a + i) d) (omega arith) lv)
 
   -- two neighbouring parts replaced, one after the other
-  pub splice-more : (r : List A) (at n m : ℕ) (u v : List A) → at + n ≤ length r → length u ≡ n → splice (splice r at n u) (at + n) m v ≡ splice r at (n + m) (u ++ v)
+  pub splice-more : (r : List A) (at n m : ℕ) (u v : List A) → at + n ≤ length r → length u ≡ n
+      → splice (splice r at n u) (at + n) m v ≡ splice r at (n + m) (u ++ v)
   unfolding splice
   splice-more r at n m u v h l =
       let rest = drop n (drop at r) in

@@ -1,6 +1,7 @@
 -- Within its limits, a record is its parts written one after the other, each filled up with zeros: nothing is cut. Assumes nothing.
 use Prim.Native.Nat.{ℕ, zero, suc, _+_, _-_, _*_, _≤_, _<_}
 use mathlib.Core.Path.{_≡_, refl, sym, ap, ap₂, _∙_}
+use mathlib.Core.Bool.{true}
 use mathlib.Core.List.{List, [], _∷_, _++_, map, append-assoc, append-nil}
 use native.Mathlib.Omega.{arith}
 use native.Mathlib.Nat.{zero-mul, add-zero, add-suc, mul-one}
@@ -12,9 +13,12 @@ use Rattle.model.specs.Bounded.{join-below, list-below}
 use Rattle.model.specs.Columns.{Device, columns, kind}
 use Rattle.model.specs.Book.{Running, Book, intervals}
 use Rattle.model.specs.Record.{bytes16, padded, slot, slots, interval-bytes, entry-bytes, head-bytes, layout, column-part, entry-part, image, record-of}
+use Rattle.model.specs.Sound.{within}
+use Rattle.model.specs.Laws.Limits.{limits-to}
+use Rattle.model.specs.Laws.Cells.{few-intervals}
 use Rattle.model.specs.Laws.Parts.{join-cong, length-join, listed}
 use Rattle.model.specs.Laws.Slots.{padded-by, padded-full, length-padded, slot-out, slot-map}
-use Rattle.model.specs.Laws.Record.{Room, no-entry, kind-out, intervals-out}
+use Rattle.model.specs.Laws.Record.{no-entry, kind-out, intervals-out}
 
 -- the pieces one after the other
 unfoldable pub joined : List (List ℕ) → List ℕ
@@ -45,10 +49,13 @@ module _ (f : ℕ → List ℕ) (k m : ℕ) (rest : (i : ℕ) → m ≤ i → f 
       let g : (m + j) * k ≡ length (join-below m f) + j * k = omega (arith, length-join f k m size) in
       join-rest f k m j rest ∙ sym (rw g (padded-by (join-below m f) (j * k)))
 
+  -- n pieces, zeros from the m-th on, are m pieces filled up
   pub join-plain : (n : ℕ) → m ≤ n → join-below n f ≡ padded (n * k) (join-below m f)
   join-plain n h = let e : m + (n - m) ≡ n = omega arith in rw e at (plain-by (n - m))
 
-pub slots-plain : (n k : ℕ) (ps : List (List ℕ)) → ((i : ℕ) → i < length ps → length (getD ps i []) ≡ k) → length ps ≤ n → slots n k ps ≡ padded (n * k) (joined ps)
+-- places for pieces of one size are the pieces filled up
+pub slots-plain : (n k : ℕ) (ps : List (List ℕ)) → ((i : ℕ) → i < length ps → length (getD ps i []) ≡ k) → length ps ≤ n
+    → slots n k ps ≡ padded (n * k) (joined ps)
 unfolding slots slot
 slots-plain n k ps size few =
     join-plain (slot k ps) k (length ps) (λ i h. slot-out k ps i h) (λ i q. length-padded k (getD ps i [])) n few
@@ -69,7 +76,8 @@ column-plain is few =
     slots-plain max-intervals interval-size (map interval-bytes is)
     (λ i q. getD-map interval-bytes is interval-size i (λ x. unfold interval-bytes bytes16 in refl) (omega (arith, length-map is interval-bytes))) (omega (arith, length-map is interval-bytes))
 
-entries-plain : (b : Book) → length b ≤ max-running → join-below max-running (entry-part b) ≡ padded (max-running * entry-size) (joined (map (λ e. padded entry-size (entry-bytes e)) b))
+entries-plain : (b : Book) → length b ≤ max-running
+    → join-below max-running (entry-part b) ≡ padded (max-running * entry-size) (joined (map (λ e. padded entry-size (entry-bytes e)) b))
 unfolding slots
 entries-plain b few =
     let whole : Running → List ℕ = λ e. padded entry-size (entry-bytes e) in
@@ -81,7 +89,8 @@ entries-plain b few =
     ])
     ∙ slots-plain max-running entry-size (map whole b) (λ i q. getD-map whole b entry-size i (λ e. length-padded entry-size (entry-bytes e)) (omega arith)) (omega arith)
 
-pub record-plain : (d : Device) (b : Book) → Room d b → ((c : ℕ) → c < max-columns → length (intervals d b c) ≤ max-intervals)
+-- THEOREM: within the limits nothing is cut
+pub record-plain : (d : Device) (b : Book) → within d b ≡ true
     → record-of d b
     ≡ bytes16 (d .rows) ++ (columns d ∷ length b ∷ [])
     ++ padded max-columns (d .kinds)
@@ -89,11 +98,12 @@ pub record-plain : (d : Device) (b : Book) → Room d b → ((c : ℕ) → c < m
     ++ join-below max-columns (λ c. padded column-size (joined (map interval-bytes (intervals d b c))))
     ++ padded (max-running * entry-size) (joined (map (λ e. padded entry-size (entry-bytes e)) b))
 unfolding record-of image layout head-bytes columns kind
-record-plain d b w few =
+record-plain d b w =
+    let l = limits-to d b w in
     ap₂ _++_
     (ap₂ _++_
     (ap₂ _++_
-    (ap (λ l. head-bytes d b ++ l) (list-plain (kind d) (columns d) max-columns (kind-out d) (w .columns-fit) ∙ ap (padded max-columns) (listed (d .kinds) 0)))
-    (list-plain (λ c. length (intervals d b c)) (columns d) max-columns (λ c h. ap length (intervals-out d b c h)) (w .columns-fit)))
-    (join-cong (λ c. column-part (intervals d b c)) (λ c. padded column-size (joined (map interval-bytes (intervals d b c)))) max-columns (λ c q. column-plain (intervals d b c) (few c q))))
-    (entries-plain b (w .book-fits))
+    (ap (λ l. head-bytes d b ++ l) (list-plain (kind d) (columns d) max-columns (kind-out d) (l .columns) ∙ ap (padded max-columns) (listed (d .kinds) 0)))
+    (list-plain (λ c. length (intervals d b c)) (columns d) max-columns (λ c h. ap length (intervals-out d b c h)) (l .columns)))
+    (join-cong (λ c. column-part (intervals d b c)) (λ c. padded column-size (joined (map interval-bytes (intervals d b c)))) max-columns (λ c q. column-plain (intervals d b c) (few-intervals d b w c))))
+    (entries-plain b (l .few))

@@ -18,7 +18,7 @@ use Rattle.model.specs.Tasks.{word, blocks}
 use Rattle.model.specs.Book.{Running, Book, free, intervals}
 use Rattle.model.specs.Record.{bytes16, padded, interval-bytes, entry-bytes, layout, head-bytes, column-part, entry-part, image, record-of, part, column-at, entry-at, device-of, running-of, book-of}
 use Rattle.model.specs.Laws.Bounded.{clash}
-use Rattle.model.specs.Laws.Parts.{changed, splice, getD-part, part-end, join-cong, length-join, join-parts, list-parts, listed, byte-of, piece-of, cut, uncut, length-splice, part-splice-below, part-splice-above, getD-splice-below, piece-splice, byte-set, part-set-below, part-set-above, part-set}
+use Rattle.model.specs.Laws.Parts.{changed, splice, getD-part, part-end, join-cong, length-join, length-list, join-parts, list-is, listed, byte-of, piece-of, cut, uncut, length-splice, part-splice-below, part-splice-above, getD-splice-below, piece-splice, byte-set, part-set-below, part-set-above, part-set}
 use Rattle.model.specs.Laws.Slots.{getD-padded, part-padded, length-slot, length-slots, slot-map, slot-out, slots-nil}
 
 -- ---- what it is for r to be laid out from these parts
@@ -33,23 +33,15 @@ pub record Reads (r : List ℕ) (head : List ℕ) (kinds counts : ℕ → ℕ) (
 
 module _ (head : List ℕ) (kinds counts : ℕ → ℕ) (columns entries : ℕ → List ℕ) (l-head : length head ≡ head-size)
     (l-column : (c : ℕ) → c < max-columns → length (columns c) ≡ column-size) (l-entry : (j : ℕ) → j < max-running → length (entries j) ≡ entry-size) where
-  l-kinds : length (list-below max-columns kinds) ≡ max-columns
-  l-kinds = length-join (λ c. kinds c ∷ []) 1 max-columns (λ c q. refl)
-
-  l-counts : length (list-below max-columns counts) ≡ max-columns
-  l-counts = length-join (λ c. counts c ∷ []) 1 max-columns (λ c q. refl)
-
-  l-columns : length (join-below max-columns columns) ≡ max-columns * column-size
-  l-columns = length-join columns column-size max-columns l-column
-
-  l-entries : length (join-below max-running entries) ≡ max-running * entry-size
-  l-entries = length-join entries entry-size max-running l-entry
-
+  -- THEOREM: what is laid out from these parts reads so
   pub reads-layout : Reads (layout head kinds counts columns entries) head kinds counts columns entries
   unfolding layout
   reads-layout =
       let r = layout head kinds counts columns entries in
-      let x = cut head (list-below max-columns kinds) (list-below max-columns counts) (join-below max-columns columns) (join-below max-running entries) head-size max-columns max-columns (max-columns * column-size) (max-running * entry-size) l-head l-kinds l-counts l-columns l-entries in
+      let x =
+      cut head (list-below max-columns kinds) (list-below max-columns counts) (join-below max-columns columns) (join-below max-running entries)
+      head-size max-columns max-columns (max-columns * column-size) (max-running * entry-size)
+      l-head (length-list kinds max-columns) (length-list counts max-columns) (length-join columns column-size max-columns l-column) (length-join entries entry-size max-running l-entry) in
       record {
         size = x .length-is;
         head-is = x .a-is;
@@ -59,20 +51,24 @@ module _ (head : List ℕ) (kinds counts : ℕ → ℕ) (columns entries : ℕ �
         entry-is = λ c q. piece-of r entries-at entry-size max-running entries c (x .e-is) l-entry q;
       }
 
-pub layout-reads : {r head : List ℕ} {kinds counts : ℕ → ℕ} {columns entries : ℕ → List ℕ} → Reads r head kinds counts columns entries → r ≡ layout head kinds counts columns entries
+-- THEOREM: and what reads so is laid out from these parts
+pub layout-reads : {r head : List ℕ} {kinds counts : ℕ → ℕ} {columns entries : ℕ → List ℕ} → Reads r head kinds counts columns entries
+    → r ≡ layout head kinds counts columns entries
 unfolding layout
 layout-reads {r} {head} {kinds} {counts} {columns} {entries} x =
-    uncut r head (list-below max-columns kinds) (list-below max-columns counts) (join-below max-columns columns) (join-below max-running entries) head-size max-columns max-columns (max-columns * column-size) (max-running * entry-size) (record {
+    uncut r head (list-below max-columns kinds) (list-below max-columns counts) (join-below max-columns columns) (join-below max-running entries)
+    head-size max-columns max-columns (max-columns * column-size) (max-running * entry-size) (record {
       length-is = x .size;
       a-is = x .head-is;
-      b-is = sym (list-parts r kinds-at max-columns 0 (omega (arith, x .size))) ∙ join-cong (λ c. getD r (kinds-at + c) 0 ∷ []) (λ c. kinds c ∷ []) max-columns (λ c q. ap (λ b. b ∷ []) (x .kind-is c q));
-      c-is = sym (list-parts r counts-at max-columns 0 (omega (arith, x .size))) ∙ join-cong (λ c. getD r (counts-at + c) 0 ∷ []) (λ c. counts c ∷ []) max-columns (λ c q. ap (λ b. b ∷ []) (x .count-is c q));
+      b-is = list-is r kinds-at max-columns kinds 0 (omega (arith, x .size)) (x .kind-is);
+      c-is = list-is r counts-at max-columns counts 0 (omega (arith, x .size)) (x .count-is);
       d-is = sym (join-parts r intervals-at column-size max-columns) ∙ join-cong (λ c. part r (column-at c) column-size) columns max-columns (x .column-is);
       e-is = sym (join-parts r entries-at entry-size max-running) ∙ join-cong (λ j. part r (entry-at j) entry-size) entries max-running (x .entry-is);
     })
 
 -- ---- the pieces of a record
 
+-- the head has 4 bytes
 pub length-head : (d : Device) (b : Book) → length (head-bytes d b) ≡ head-size
 unfolding head-bytes bytes16
 length-head d b = refl
@@ -80,7 +76,9 @@ length-head d b = refl
 -- ---- a part or a byte replaced in place
 
 module _ {r head : List ℕ} {kinds counts : ℕ → ℕ} {columns entries : ℕ → List ℕ} (x : Reads r head kinds counts columns entries) where
-  pub reads-column : (c : ℕ) (v : List ℕ) → c < max-columns → length v ≡ column-size → Reads (splice r (column-at c) column-size v) head kinds counts (changed columns c v) entries
+  -- the part of column c
+  pub reads-column : (c : ℕ) (v : List ℕ) → c < max-columns → length v ≡ column-size
+      → Reads (splice r (column-at c) column-size v) head kinds counts (changed columns c v) entries
   reads-column c v q l =
       let at = column-at c in
       let fits : at + column-size ≤ length r = omega (arith, x .size) in
@@ -93,7 +91,9 @@ module _ {r head : List ℕ} {kinds counts : ℕ → ℕ} {columns entries : ℕ
         entry-is = λ i p. part-splice-above r at column-size v fits l (entry-at i) entry-size (omega arith) ∙ x .entry-is i p;
       }
 
-  pub reads-entry : (j : ℕ) (v : List ℕ) → j < max-running → length v ≡ entry-size → Reads (splice r (entry-at j) entry-size v) head kinds counts columns (changed entries j v)
+  -- entry j
+  pub reads-entry : (j : ℕ) (v : List ℕ) → j < max-running → length v ≡ entry-size
+      → Reads (splice r (entry-at j) entry-size v) head kinds counts columns (changed entries j v)
   reads-entry j v q l =
       let at = entry-at j in
       let fits : at + entry-size ≤ length r = omega (arith, x .size) in
@@ -106,6 +106,7 @@ module _ {r head : List ℕ} {kinds counts : ℕ → ℕ} {columns entries : ℕ
         entry-is = piece-splice r entries-at entry-size max-running entries j v (omega (arith, x .size)) l q (x .entry-is);
       }
 
+  -- the interval count of column c
   pub reads-count : (c v : ℕ) → c < max-columns → Reads (set r (counts-at + c) v) head kinds (changed counts c v) columns entries
   reads-count c v q =
       let fits : counts-at + c < length r = omega (arith, x .size) in
@@ -151,10 +152,12 @@ reads-cong x a b c d f =
 abbrev pub Shows : List ℕ → Device → Book → (ℕ → List Interval) → Type 0
 Shows r d b is = Reads r (head-bytes d b) (kind d) (λ c. length (is c)) (λ c. column-part (is c)) (entry-part b)
 
+-- a column's part has 256 bytes
 pub length-column : (is : List Interval) → length (column-part is) ≡ column-size
 unfolding column-part
 length-column is = length-slots max-intervals interval-size (map interval-bytes is)
 
+-- an image shows its device, book and intervals, and what shows them is the image
 pub image-shows : (d : Device) (b : Book) (is : ℕ → List Interval) → Shows (image d b is) d b is
 unfolding image
 image-shows d b is =
@@ -165,12 +168,14 @@ pub shows-image : (r : List ℕ) (d : Device) (b : Book) (is : ℕ → List Inte
 unfolding image
 shows-image r d b is x = layout-reads x
 
+-- THEOREM: a record has 29,188 bytes
 pub record-length : (d : Device) (b : Book) → length (record-of d b) ≡ record-size
 unfolding record-of
 record-length d b = image-shows d b (intervals d b) .size
 
 -- ---- the head
 
+-- the number that two bytes say
 pub word-is : (p : List ℕ) (i n : ℕ) → n < words → getD p i 0 ≡ n % 256 → getD p (i + 1) 0 ≡ n / 256 % 256 → word p i ≡ n
 unfolding word
 word-is p i n h e f = omega arith
@@ -179,6 +184,7 @@ module _ (d : Device) (b : Book) {r : List ℕ} {kinds counts : ℕ → ℕ} {co
   head-byte : (i : ℕ) → i < head-size → getD r i 0 ≡ getD (head-bytes d b) i 0
   head-byte i q = sym (rw zero-add at (getD-part r 0 head-size i 0 q)) ∙ ap (λ h. getD h i 0) (x .head-is)
 
+  -- the rows, the columns and the running tasks, read from the head
   pub rows-read : d .rows < words → word r rows-at ≡ d .rows
   unfolding head-bytes bytes16
   rows-read h = word-is r 0 (d .rows) h (head-byte 0 (omega arith)) (head-byte 1 (omega arith))
@@ -205,6 +211,7 @@ map-changed g f c v i = go (eqb i c)
 unfoldable pub put-column : List ℕ → ℕ → List Interval → List ℕ
 put-column r c js = set (splice r (column-at c) column-size (column-part js)) (counts-at + c) (length js)
 
+-- the intervals of column c replaced
 pub shows-column : (r : List ℕ) (d : Device) (b : Book) (is : ℕ → List Interval) (c : ℕ) (js : List Interval) → Shows r d b is → c < max-columns
     → Shows (put-column r c js) d b (changed is c js)
 unfolding put-column
@@ -212,7 +219,9 @@ shows-column r d b is c js x q =
     reads-cong (reads-count (reads-column x c (column-part js) q (length-column js)) c (length js) q)
     refl (λ i q. refl) (λ i q. map-changed length is c js i) (λ i q. map-changed column-part is c js i) (λ i q. refl)
 
-pub image-column : (d : Device) (b : Book) (is : ℕ → List Interval) (c : ℕ) (js : List Interval) → c < max-columns → put-column (image d b is) c js ≡ image d b (changed is c js)
+-- THEOREM: the same as an equation
+pub image-column : (d : Device) (b : Book) (is : ℕ → List Interval) (c : ℕ) (js : List Interval) → c < max-columns
+    → put-column (image d b is) c js ≡ image d b (changed is c js)
 image-column d b is c js q = shows-image (put-column (image d b is) c js) d b (changed is c js) (shows-column (image d b is) d b is c js (image-shows d b is) q)
 
 -- ---- entries
@@ -224,6 +233,7 @@ pub record Writable (e : Running) : Type 0 where
   pub whole : length (e .task) ≡ block-size * blocks (e .task)
   pub short : blocks (e .task) ≤ max-blocks
 
+-- an entry, read back
 pub entry-back : (e : Running) → Writable e → running-of (padded entry-size (entry-bytes e)) ≡ e
 unfolding running-of entry-bytes bytes16
 entry-back e w =
@@ -242,6 +252,7 @@ pub no-entry : Running
 no-entry = record { number = 0; column = 0; bottom = 0; task = [] }
 
 module _ (d : Device) (b : Book) {r : List ℕ} {counts : ℕ → ℕ} {columns′ : ℕ → List ℕ} (x : Reads r (head-bytes d b) (kind d) counts columns′ (entry-part b)) where
+  -- the device and the book, read back
   pub device-back : d .rows < words → columns d ≤ max-columns → device-of r ≡ d
   unfolding device-of columns kind
   device-back h few =
@@ -260,6 +271,7 @@ module _ (d : Device) (b : Book) {r : List ℕ} {counts : ℕ → ℕ} {columns�
 
 -- ---- past the device's columns nothing stands
 
+-- no intervals
 pub intervals-out : (d : Device) (b : Book) (c : ℕ) → columns d ≤ c → intervals d b c ≡ []
 unfolding intervals free
 intervals-out d b c h =
@@ -268,6 +280,7 @@ intervals-out d b c h =
     none : (y : ℕ) → free d b c y ≡ false
     none y = rw (le-ltb c (columns d) h)
 
+-- zeros for them
 pub column-part-nil : column-part [] ≡ replicate column-size 0
 unfolding column-part
 column-part-nil = slots-nil max-intervals interval-size
@@ -275,12 +288,14 @@ column-part-nil = slots-nil max-intervals interval-size
 pub column-part-out : (d : Device) (b : Book) (c : ℕ) → columns d ≤ c → column-part (intervals d b c) ≡ replicate column-size 0
 column-part-out d b c h = rw (intervals-out d b c h) column-part-nil
 
+-- kind 0
 pub kind-out : (d : Device) (c : ℕ) → columns d ≤ c → kind d c ≡ 0
 unfolding kind columns
 kind-out d c h = List·getD-eq-default (d .kinds) 0 h
 
 -- ---- equality by parts
 
+-- THEOREM: two records that have the same parts are one
 pub same-parts : (r s : List ℕ) → length r ≡ record-size → length s ≡ record-size → part r 0 head-size ≡ part s 0 head-size
     → ((c : ℕ) → c < max-columns → getD r (kinds-at + c) 0 ≡ getD s (kinds-at + c) 0) → ((c : ℕ) → c < max-columns → getD r (counts-at + c) 0 ≡ getD s (counts-at + c) 0)
     → ((c : ℕ) → c < max-columns → part r (column-at c) column-size ≡ part s (column-at c) column-size)
@@ -289,6 +304,7 @@ same-parts r s lr ls h k n p e =
     layout-reads (record { size = lr; head-is = h; kind-is = k; count-is = n; column-is = p; entry-is = e })
     ∙ sym (layout-reads (record { size = ls; head-is = refl; kind-is = λ c q. refl; count-is = λ c q. refl; column-is = λ c q. refl; entry-is = λ j q. refl }))
 
+-- the same intervals, said in another way
 pub image-cong : (d : Device) (b : Book) (is js : ℕ → List Interval) → ((c : ℕ) → c < max-columns → is c ≡ js c) → image d b is ≡ image d b js
 image-cong d b is js h =
     shows-image (image d b is) d b js
@@ -296,13 +312,7 @@ image-cong d b is js h =
 
 -- ---- the record
 
--- the limits of the layout
-pub record Room (d : Device) (b : Book) : Type 0 where
-  pub rows-fit : d .rows < words
-  pub columns-fit : columns d ≤ max-columns
-  pub book-fits : length b ≤ max-running
-  pub entries-fit : (j : ℕ) → j < length b → Writable (getD b j no-entry)
-
+-- the record shows its device, its book and their free intervals
 pub record-shows : (d : Device) (b : Book) → Shows (record-of d b) d b (intervals d b)
 unfolding record-of
 record-shows d b = image-shows d b (intervals d b)
@@ -335,10 +345,3 @@ module _ (d : Device) (b : Book) where
 
   pub record-entry-out : (j : ℕ) → j < max-running → length b ≤ j → part (record-of d b) (entry-at j) entry-size ≡ replicate entry-size 0
   record-entry-out j q h = record-shows d b .entry-is j q ∙ slot-out entry-size (map entry-bytes b) j (omega (arith, length-map b entry-bytes))
-
--- read back
-pub device-of-record : (d : Device) (b : Book) → Room d b → device-of (record-of d b) ≡ d
-device-of-record d b w = device-back d b (record-shows d b) (w .rows-fit) (w .columns-fit)
-
-pub book-of-record : (d : Device) (b : Book) → Room d b → book-of (record-of d b) ≡ b
-book-of-record d b w = book-back d b (record-shows d b) (w .book-fits) (w .entries-fit)

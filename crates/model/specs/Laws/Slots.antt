@@ -17,6 +17,7 @@ use Rattle.model.specs.Laws.Parts.{changed, splice, splice-join, join-co
 
 -- ---- padded
 
+-- always n bytes
 pub length-padded : (n : ℕ) (l : List ℕ) → length (padded n l) ≡ n
 unfolding padded
 length-padded n l = length-take-le n (l ++ replicate n 0) (rw length-append (omega (arith, length-replicate {A = ℕ} n 0)))
@@ -28,13 +29,16 @@ padded-by l m =
     take-append-add l (replicate (length l + m) 0) m
     ∙ ap (λ r. l ++ r) (rw (add-comm (length l) m, ← replicate-append-replicate {A = ℕ} m (length l) 0) (take-at (replicate m 0) (replicate (length l) 0) m (length-replicate m 0)))
 
+-- the bytes of l, and zeros up to n
 pub padded-is : (n : ℕ) (l : List ℕ) → length l ≤ n → padded n l ≡ l ++ replicate (n - length l) 0
 padded-is n l h = let e : length l + (n - length l) ≡ n = omega arith in rw e at (padded-by l (n - length l))
 
+-- n bytes need no zeros
 pub padded-full : (n : ℕ) (l : List ℕ) → length l ≡ n → padded n l ≡ l
 unfolding padded
 padded-full n l h = take-at l (replicate n 0) n h
 
+-- no bytes: all zeros
 pub padded-nil : (n : ℕ) → padded n [] ≡ replicate n 0
 unfolding padded
 padded-nil n = take-all n (replicate n 0) (omega (arith, length-replicate {A = ℕ} n 0))
@@ -46,16 +50,19 @@ getD-zeros [] (suc n) (suc i) = getD-zeros [] n i
 getD-zeros (x ∷ xs) n zero = refl
 getD-zeros (x ∷ xs) n (suc i) = getD-zeros xs n i
 
+-- each byte is that of l, and 0 past its end
 pub getD-padded : (n : ℕ) (l : List ℕ) (i : ℕ) → i < n → getD (padded n l) i 0 ≡ getD l i 0
 unfolding padded
 getD-padded n l i h = getD-take n (l ++ replicate n 0) i 0 h ∙ getD-zeros l n i
 
+-- a part of the bytes of l
 pub part-padded : (n : ℕ) (l : List ℕ) (at m : ℕ) → at + m ≤ length l → at + m ≤ n → part (padded n l) at m ≡ part l at m
 unfolding padded part
 part-padded n l at m p q = (rw zero-add at (part-part (l ++ replicate n 0) 0 n at m q)) ∙ part-left l (replicate n 0) at m p
 
 -- ---- places
 
+-- each place has k bytes, and n places have n * k
 pub length-slot : (k : ℕ) (ps : List (List ℕ)) (i : ℕ) → length (slot k ps i) ≡ k
 unfolding slot
 length-slot k ps i = length-padded k (getD ps i [])
@@ -64,10 +71,12 @@ pub length-slots : (n k : ℕ) (ps : List (List ℕ)) → length (slots n k ps) 
 unfolding slots
 length-slots n k ps = length-join (slot k ps) k n (λ i q. length-slot k ps i)
 
+-- place i stands at k * i
 pub part-slots : (n k : ℕ) (ps : List (List ℕ)) (i : ℕ) → i < n → part (slots n k ps) (k * i) k ≡ slot k ps i
 unfolding slots
 part-slots n k ps i q = part-join (slot k ps) k n i (λ i q. length-slot k ps i) q
 
+-- what has the places one by one has them all
 pub slots-are : (r : List ℕ) (n k : ℕ) (ps : List (List ℕ)) → length r ≡ n * k → ((i : ℕ) → i < n → part r (k * i) k ≡ slot k ps i) → r ≡ slots n k ps
 unfolding slots
 slots-are r n k ps l h = table-is r k n (slot k ps) l h
@@ -87,6 +96,7 @@ slot-map {A} k f l i d q = ap (padded k) (go l i q)
     go (x ∷ xs) zero q = refl
     go (x ∷ xs) (suc i) q = go xs i (omega arith)
 
+-- no pieces: all zeros
 pub slots-nil : (n k : ℕ) → slots n k [] ≡ replicate (n * k) 0
 unfolding slots join-below
 slots-nil zero k = rw zero-mul
@@ -106,6 +116,7 @@ module _ {ℓ} {A : Type ℓ} where
   lowered i n f j = cond (ltb j i) (f j) (cond (ltb j n) (f (j + 1)) (f j))
 
   module _ (i n : ℕ) (f : ℕ → A) (j : ℕ) where
+    -- below i, between, and above n
     pub raised-low : j ≤ i → raised i n f j ≡ f j
     unfolding raised
     raised-low p = rw (le-ltb i j p)
@@ -118,6 +129,7 @@ module _ {ℓ} {A : Type ℓ} where
     unfolding raised
     raised-high p q = rw (lt-ltb i j p, lt-leb j n q)
 
+    -- the same three cases
     pub lowered-low : j < i → lowered i n f j ≡ f j
     unfolding lowered
     lowered-low p = rw (lt-ltb j i p)
@@ -149,6 +161,7 @@ module _ (k : ℕ) (ps : List (List ℕ)) (i : ℕ) where
   unfolding slot
   slot-drop j = ap (padded k) (getD-drop i ps j [])
 
+  -- a piece put in at i: the later ones stand one place higher
   pub slot-insert : (x : List ℕ) (j : ℕ) → i ≤ length ps → slot k (take i ps ++ x ∷ drop i ps) j ≡ changed (raised i (length ps) (slot k ps)) i (padded k x) j
   unfolding slot
   slot-insert x j h =
@@ -170,7 +183,9 @@ module _ (k : ℕ) (ps : List (List ℕ)) (i : ℕ) where
       ]
 
 module _ (k : ℕ) (ps : List (List ℕ)) (i : ℕ) where
-  pub slot-remove : (j : ℕ) → i < length ps → slot k (take i ps ++ drop (suc i) ps) j ≡ changed (lowered i (length ps - 1) (slot k ps)) (length ps - 1) (replicate k 0) j
+  -- piece i taken out: the later ones stand one place lower, and the last place is zeros
+  pub slot-remove : (j : ℕ) → i < length ps
+      → slot k (take i ps ++ drop (suc i) ps) j ≡ changed (lowered i (length ps - 1) (slot k ps)) (length ps - 1) (replicate k 0) j
   slot-remove j h =
       let n = length ps - 1 in
       let f = lowered i n (slot k ps) in
@@ -191,19 +206,24 @@ module _ (k : ℕ) (ps : List (List ℕ)) (i : ℕ) where
 
 -- ---- a piece replaced, and one put behind the last
 
+-- place i written over, where the pieces then are qs
 pub slots-splice : (n k : ℕ) (ps qs : List (List ℕ)) (i : ℕ) (x : List ℕ) → i < n → length x ≡ k → ((j : ℕ) → j < n → changed (slot k ps) i x j ≡ slot k qs j)
     → splice (slots n k ps) (k * i) k x ≡ slots n k qs
 unfolding slots
 slots-splice n k ps qs i x q l h = splice-join (slot k ps) k n i x (λ j p. length-slot k ps j) l q ∙ join-cong (changed (slot k ps) i x) (slot k qs) n h
 
-pub slots-set : (n k : ℕ) (ps : List (List ℕ)) (i : ℕ) (x : List ℕ) → i < n → i < length ps → length x ≡ k → splice (slots n k ps) (k * i) k x ≡ slots n k (set ps i x)
+-- piece i replaced
+pub slots-set : (n k : ℕ) (ps : List (List ℕ)) (i : ℕ) (x : List ℕ) → i < n → i < length ps → length x ≡ k
+    → splice (slots n k ps) (k * i) k x ≡ slots n k (set ps i x)
 unfolding slot
 slots-set n k ps i x q h l = slots-splice n k ps (set ps i x) i x q l (λ j p. elim (ℕ-discrete j i) [
   | yes e ↦ rw (e, changed-same (slot k ps) i x, getD-set-same ps i x [] h) (sym (padded-full k x l))
   | no ne ↦ rw (changed-other (slot k ps) i j x ne, getD-set-other ps i j x [] ne)
 ])
 
-pub slots-push : (n k : ℕ) (ps : List (List ℕ)) (x : List ℕ) → length ps < n → length x ≡ k → splice (slots n k ps) (k * length ps) k x ≡ slots n k (ps ++ (x ∷ []))
+-- one more piece, in the first free place
+pub slots-push : (n k : ℕ) (ps : List (List ℕ)) (x : List ℕ) → length ps < n → length x ≡ k
+    → splice (slots n k ps) (k * length ps) k x ≡ slots n k (ps ++ (x ∷ []))
 unfolding slot
 slots-push n k ps x q l =
     let m = length ps in

@@ -1,7 +1,8 @@
 //! Random books, for their records, and random damage to a record.
 
 use crate::arbitrary::{call, device, mood};
-use crate::book::Book;
+use crate::book::{Book, MAX_RUNNING};
+use crate::device::MAX_COLUMNS;
 use crate::layout::*;
 use crate::rng::Rng;
 
@@ -31,15 +32,18 @@ pub fn damage(rng: &mut Rng, record: &mut [u8]) {
 
 /// A byte of the record: in the head, in a used column, in a running entry, or anywhere.
 fn place_to_damage(rng: &mut Rng, record: &[u8]) -> usize {
-    let columns = usize::from(record[COLUMNS]).max(1);
-    let running = usize::from(record[RUNNING]).max(1);
+    // Earlier damage may have hit these two, hence both limits.
+    let columns = usize::from(record[COLUMNS]).clamp(1, MAX_COLUMNS);
+    let running = usize::from(record[RUNNING]).clamp(1, MAX_RUNNING);
     let column = rng.below(columns);
-    match rng.below(6) {
+    match rng.below(7) {
         0 => rng.below(KINDS),
         1 => rng.pick(&[KINDS, COUNTS]) + column,
         2 => column_part(column).start + rng.below(16),
         3 => entry_part(rng.below(running)).start + rng.below(ENTRY_BLOCKS + 12),
         4 => entry_part(rng.below(running)).start + rng.below(ENTRY_BYTES),
+        // Another number may leave the record sound.
+        5 => entry_part(rng.below(running)).start + rng.below(2),
         _ => rng.below(RECORD_BYTES),
     }
 }

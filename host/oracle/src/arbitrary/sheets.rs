@@ -92,7 +92,7 @@ pub fn sheet_bytes(rng: &mut Rng) -> Vec<u8> {
     let steps = rng.below(30);
     let calls = line_calls(rng, &device, steps);
     let mut text = text_of(&device, &calls);
-    let after_names = text.len() - text.len() / 2;
+    let after_names = text_of(&device, &[]).len();
     for _ in 0..rng.pick(&[0, 1, 5, 20]) {
         // Damage to lines 1 to 3 ends the sheet, so most of it comes later.
         let low = if rng.percent(3) { 0 } else { after_names };

@@ -1,0 +1,15 @@
+//! The oracle's tests, as one program: cards by hand, refusals, random cards, sheets.
+
+mod cards;
+mod choices;
+mod damage;
+mod helpers;
+mod histories;
+mod lines;
+mod positions;
+mod records;
+mod refusals;
+mod sheet_random;
+mod sheet_rules;
+mod soundness;
+mod tasks;
