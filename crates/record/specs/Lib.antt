@@ -1,0 +1,3 @@
+-- What the contracts of `record` cite, and what is proved of it.
+pub mod Rebuild
+pub mod RebuildLaws

@@ -1,0 +1,1 @@
+// The record: its device, its book and its free intervals.
