@@ -1,1 +1,2 @@
 // The record: its device, its book and its free intervals.
+pub mod fits;
