@@ -1,0 +1,2 @@
+-- What the contracts of `record` cite, and what is proved of it: a file for each module of src/.
+pub mod Device

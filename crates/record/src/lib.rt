@@ -1,0 +1,2 @@
+// The record of a card: written for a new card, changed when a task is entered and when it leaves.
+pub mod device;
