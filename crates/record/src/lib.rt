@@ -1,2 +1,3 @@
 // The record of a card: written for a new card, changed when a task is entered and when it leaves.
+pub mod clear;
 pub mod device;
