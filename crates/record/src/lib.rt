@@ -1,2 +1,4 @@
-// The record: its device, its book and its free intervals.
+// The record of a card: written for a new card, changed when a task is entered and when it leaves, searched and checked.
+pub mod clear;
+pub mod device;
 pub mod fits;
