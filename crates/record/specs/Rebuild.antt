@@ -5,10 +5,11 @@ use mathlib.Core.Bool.{Bool, true, false}
 use mathlib.Core.List.{List}
 use lib.ListN.{length, getD, take, drop}
 use Rattle.model.specs.Limits.{max-running, max-blocks, block-size, record-size, running-at, blocks-at}
-use Rattle.model.specs.Tasks.{word, well-formed}
-use Rattle.model.specs.Book.{Running, Book}
+use Rattle.model.specs.Tasks.{word, sized, well-formed}
+use Rattle.model.specs.Book.{Running, Book, fits}
 use Rattle.model.specs.Record.{record-of, entry-at, device-of, book-of}
-use Rattle.model.specs.Sound.{within, block-count, sound}
+use Rattle.model.specs.Sound.{number-ok, within, block-count, sound}
+use Rattle.model.specs.Calls.{insert, runs-in}
 use Rattle.model.specs.Laws.Record.{no-entry}
 
 -- running task j of r
@@ -39,12 +40,31 @@ pub record Entered (r : List ℕ) (j : ℕ) : Type 0 where
   pub few : getD r running-at 0 ≤ max-running
   pub runs : j < getD r running-at 0
 
--- entry j of r passes the tests that read no other part of r than the entries
+-- entry j of r has a number that rises, and 1 to 32 blocks
 pub record Passes (r : List ℕ) (j : ℕ) : Type 0 where
-  pub rises : prior 0 (book-of r) j < word r (entry-at j)
+  pub rises : prior 0 (book-of r) j < entry-of r j .number
   pub some-blocks : 1 ≤ block-count r j
   pub few-blocks : block-count r j ≤ max-blocks
-  pub formed : well-formed (blocks-of r j) ≡ true
+
+-- the answer ok of these tests: where they refuse, r is not sound
+pub record Checked (r : List ℕ) (j : ℕ) (ok : Bool) : Type 0 where
+  pub passes : ok ≡ true → Passes r j
+  pub refused : ok ≡ false → sound r ≡ false
+
+-- the task t, under the number n, can be entered into the record s where it is well-formed and fits
+pub record Ready (s t : List ℕ) (n : ℕ) : Type 0 where
+  pub sound : sound s ≡ true
+  pub sized : sized t ≡ true
+  pub number : number-ok n ≡ true
+  pub fresh : runs-in (book-of s) n ≡ false
+  pub room : length (book-of s) < max-running
+
+-- the answer ok, and the record u after it
+pub record Tried (s t : List ℕ) (n p y : ℕ) (u : List ℕ) (ok : Bool) : Type 0 where
+  pub formed : ok ≡ true → well-formed t ≡ true
+  pub fitted : ok ≡ true → fits (device-of s) (book-of s) t p y ≡ true
+  pub entered : ok ≡ true → u ≡ record-of (device-of s) (insert (record { number = n; column = p; bottom = y; task = t }) (book-of s))
+  pub refused : ok ≡ false → well-formed t ≡ true → fits (device-of s) (book-of s) t p y ≡ true → ⊥
 
 -- s is the record of r's device and its first j tasks, which are within the limits
 pub record Rebuilt (r s : List ℕ) (j : ℕ) : Type 0 where

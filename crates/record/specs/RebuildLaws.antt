@@ -3,7 +3,7 @@
 use Prim.Native.Nat.{ℕ, zero, suc, _+_, _-_, _*_, _/_, _%_, _≤_, _<_}
 use mathlib.Core.Path.{_≡_, refl, sym, ap, ap₂, _∙_}
 use mathlib.Core.Logic.{_⊎_, inl, inr}
-use mathlib.Core.Bool.{Bool, true, false, not, _&&_}
+use mathlib.Core.Bool.{Bool, true, false, true≢false, false≢true}
 use mathlib.Core.List.{List, [], _∷_, _++_}
 use native.Mathlib.Omega.{arith}
 use native.Mathlib.Numerals.{add-one}
@@ -12,6 +12,7 @@ use lib.Dec.{leb, ltb, eqb}
 use lib.ListN.{length, getD, take, drop, length-take, length-drop}
 use lib.Seq.{take-suc, take-all, length-take-le}
 use borrow.Author.Tests.{le-leb, le-ltb, eq-eqb, ne-eqb}
+use Rattle.runs.specs.Laws.Tests.{tests}
 use Rattle.model.specs.Limits.{max-running, max-number, max-blocks, block-size, record-size, words, rows-at, columns-at, running-at, kinds-at, max-columns, entry-size, blocks-at}
 use Rattle.model.specs.Columns.{Device, columns, height, kind, device-ok}
 use Rattle.model.specs.Tasks.{word, blocks, sized, well-formed}
@@ -33,7 +34,7 @@ use Rattle.model.specs.Laws.WriteBack.{Bytes}
 use Rattle.model.specs.Laws.ReadBack.{getD-in, device-of-record, book-of-record}
 use Rattle.model.specs.Laws.Sound.{running-said, columns-said, record-sound, sound-length, sound-within, sound-record}
 use Rattle.words.specs.Words.{Same}
-use Rattle.record.specs.Rebuild.{entry-of, prior, blocks-of, said, Entered, Passes, Rebuilt, Step}
+use Rattle.record.specs.Rebuild.{entry-of, prior, blocks-of, said, Entered, Passes, Checked, Ready, Tried, Rebuilt, Step}
 
 -- ---- the first j tasks of a book
 
@@ -130,6 +131,18 @@ module _ (r : List ℕ) (j : ℕ) (x : Entered r j) where
       let e : entry-at j + blocks-at + block-size * block-count r j - (entry-at j + blocks-at) ≡ block-size * block-count r j = omega arith in
       rw e (simp (length-take, length-drop) (omega (arith, x .size)))
 
+-- whether its number rises, from its number n and that of the entry before, m
+module _ (r : List ℕ) (j n : ℕ) (e : n ≡ entry-of r j .number) where
+  pub rises-first : j ≡ 0 → ltb 0 n ≡ ltb (prior 0 (book-of r) j) (entry-of r j .number)
+  unfolding prior
+  rises-first z = rw e (ap (λ (i : ℕ). ltb (prior 0 (book-of r) i) (entry-of r j .number)) (sym z))
+
+  pub rises-next : (m : ℕ) → (j ≡ 0 → ⊥) → m ≡ entry-of r (j - 1) .number → ltb m n ≡ ltb (prior 0 (book-of r) j) (entry-of r j .number)
+  unfolding prior
+  rises-next m z q =
+      let k : suc (j - 1) ≡ j = omega arith in
+      rw (e, q) (ap (λ (i : ℕ). ltb (prior 0 (book-of r) i) (entry-of r j .number)) k)
+
 -- whole blocks, 1 to 32 of them
 sized-of : (t : List ℕ) (n : ℕ) → length t ≡ block-size * n → 1 ≤ n → n ≤ max-blocks → sized t ≡ true
 unfolding sized
@@ -151,101 +164,145 @@ module _ (r : List ℕ) (j : ℕ) (x : Entered r j) (s : sound r ≡ true) where
   in-limits : Entry (device-of r) (entry-of r j)
   in-limits = limits-to (device-of r) (book-of r) (sound-within r s) .entries (entry-of r j) (getD-in (book-of r) j no-entry in-book)
 
-  pub sound-passes : Passes r j
+  sound-passes : Passes r j
   sound-passes = record {
-    rises = rw (number-said r j x) at (prior-below 0 (book-of r) (limits-to (device-of r) (book-of r) (sound-within r s) .rising) j in-book);
+    rises = prior-below 0 (book-of r) (limits-to (device-of r) (book-of r) (sound-within r s) .rising) j in-book;
     some-blocks = count-sound .0;
     few-blocks = count-sound .1;
-    formed = rw (entry-said r j x (count-sound .1)) at (in-limits .well-formed);
   }
 
-  pub sound-fits : fits (device-of r) (take j (book-of r)) (blocks-of r j) (getD r (entry-at j + 2) 0) (word r (entry-at j + 4)) ≡ true
+  sound-formed : well-formed (blocks-of r j) ≡ true
+  sound-formed = rw (entry-said r j x (count-sound .1)) at (in-limits .well-formed)
+
+  sound-fits : fits (device-of r) (take j (book-of r)) (blocks-of r j) (getD r (entry-at j + 2) 0) (word r (entry-at j + 4)) ≡ true
   sound-fits = rw (entry-said r j x (count-sound .1)) at (fits-among (device-of r) (book-of r) j in-book (sound-within r s))
 
 -- so where a test fails, the record is not sound
 module _ (r : List ℕ) (j : ℕ) (x : Entered r j) where
-  pub refused-number : word r (entry-at j) ≤ prior 0 (book-of r) j → sound r ≡ false
-  refused-number h = is-false (sound r) (λ s. omega (arith, sound-passes r j x s .rises))
+  refuse : ¬ Passes r j → Checked r j false
+  refuse h = record { passes = λ e. absurd (false≢true e); refused = λ e. is-false (sound r) (λ s. h (sound-passes r j x s)) }
 
-  pub refused-none : block-count r j ≡ 0 → sound r ≡ false
-  refused-none h = is-false (sound r) (λ s. omega (arith, sound-passes r j x s .some-blocks))
+  pub refused-number : (ok : Bool) → ok ≡ ltb (prior 0 (book-of r) j) (entry-of r j .number) → ok ≡ false → Checked r j false
+  refused-number ok e f = refuse (λ p. let h = sym e ∙ f in let q = p .rises in omega tests)
 
-  pub refused-many : max-blocks < block-count r j → sound r ≡ false
-  refused-many h = is-false (sound r) (λ s. omega (arith, sound-passes r j x s .few-blocks))
+  pub refused-none : block-count r j ≡ 0 → Checked r j false
+  refused-none h = refuse (λ p. omega (arith, p .some-blocks))
 
-  pub refused-form : well-formed (blocks-of r j) ≡ false → sound r ≡ false
-  refused-form h = is-false (sound r) (λ s. clash (sound-passes r j x s .formed) h)
+  pub checked : (ok : Bool) → ok ≡ ltb (prior 0 (book-of r) j) (entry-of r j .number) → ok ≡ true → ¬ (block-count r j ≡ 0) → Checked r j (leb (block-count r j) max-blocks)
+  checked ok e t some = record {
+    passes = λ f. let h = sym e ∙ t in record { rises = omega tests; some-blocks = omega arith; few-blocks = omega tests };
+    refused = λ f. is-false (sound r) (λ s. let p = sound-passes r j x s .few-blocks in omega tests);
+  }
 
--- ---- the scratch record, with j tasks entered
+-- ---- a task is tried
+
+module _ (s t : List ℕ) (n p y : ℕ) where
+  pub tried-formless : (ok : Bool) → ok ≡ well-formed t → ok ≡ false → Tried s t n p y s false
+  tried-formless ok e f = record {
+    formed = λ h. absurd (false≢true h);
+    fitted = λ h. absurd (false≢true h);
+    entered = λ h. absurd (false≢true h);
+    refused = λ h w g. clash w (sym e ∙ f);
+  }
+
+  pub tried-misfit : (ok : Bool) → ok ≡ fits (device-of s) (book-of s) t p y → ok ≡ false → Tried s t n p y s false
+  tried-misfit ok e f = record {
+    formed = λ h. absurd (false≢true h);
+    fitted = λ h. absurd (false≢true h);
+    entered = λ h. absurd (false≢true h);
+    refused = λ h w g. clash g (sym e ∙ f);
+  }
+
+  pub tried-entered : (u : List ℕ) → well-formed t ≡ true → fits (device-of s) (book-of s) t p y ≡ true
+      → u ≡ record-of (device-of s) (insert (record { number = n; column = p; bottom = y; task = t }) (book-of s)) → Tried s t n p y u true
+  tried-entered u w f e = record { formed = λ h. w; fitted = λ h. f; entered = λ h. e; refused = λ h. absurd (true≢false h) }
+
+-- ---- the scratch record s, with j tasks of r entered
 
 module _ (r s : List ℕ) (j : ℕ) (m : Rebuilt r s j) where
-  pub scratch-sound : sound s ≡ true
-  scratch-sound = ap sound (m .bytes) ∙ record-sound (device-of r) (take j (book-of r)) (m .limits)
-
   scratch-device : device-of s ≡ device-of r
   scratch-device = ap device-of (m .bytes) ∙ device-of-record (device-of r) (take j (book-of r)) (m .limits)
 
   scratch-book : book-of s ≡ take j (book-of r)
   scratch-book = ap book-of (m .bytes) ∙ book-of-record (device-of r) (take j (book-of r)) (m .limits)
 
-  module _ (x : Entered r j) where
+  module _ (x : Entered r j) (t : Passes r j) where
     in-book-still : j < length (book-of r)
     in-book-still = omega (arith, running-said r, x .runs)
 
-    pub refused-fits : fits (device-of s) (book-of s) (blocks-of r j) (getD r (entry-at j + 2) 0) (word r (entry-at j + 4)) ≡ false → sound r ≡ false
-    refused-fits h = is-false (sound r) (λ y. clash (sound-fits r j x y) (rw (scratch-device, scratch-book) at h))
+    below-number : (f : Running) → In f (take j (book-of r)) → f .number < entry-of r j .number
+    below-number f i =
+        omega (arith, t .rises, prior-above 0 (book-of r) j (limits-to (device-of r) (take j (book-of r)) (m .limits) .rising) (omega (arith, in-book-still)) f i)
 
-    pub scratch-room : length (book-of s) < max-running
-    scratch-room = rw (scratch-book, length-take-le j (book-of r) (omega (arith, in-book-still))) (omega (arith, x .few, x .runs))
+    scratch-fresh : runs-in (book-of s) (word r (entry-at j)) ≡ false
+    unfolding runs-in
+    scratch-fresh =
+        rw scratch-book
+        (any-in-none (λ e. eqb (e .number) (word r (entry-at j))) (take j (book-of r))
+        (λ f i. ne-eqb (f .number) (word r (entry-at j)) (λ q. omega (arith, number-said r j x, below-number f i))))
 
-    below-number : word r (entry-at j) ≡ entry-of r j .number → prior 0 (book-of r) j < word r (entry-at j) → (f : Running) → In f (take j (book-of r)) → f .number < entry-of r j .number
-    below-number e h f i =
-        omega (arith, prior-above 0 (book-of r) j (limits-to (device-of r) (take j (book-of r)) (m .limits) .rising) (omega (arith, in-book-still)) f i)
+    module _ (small : word r (entry-at j) < words) where
+      number-fits : number-ok (word r (entry-at j)) ≡ true
+      unfolding number-ok
+      number-fits =
+          rw (le-leb 1 (word r (entry-at j)) (omega (arith, t .rises, number-said r j x))) (le-leb (word r (entry-at j)) max-number (omega arith))
 
-    module _ (t : Passes r j) where
-      pub scratch-fresh : runs-in (book-of s) (word r (entry-at j)) ≡ false
-      unfolding runs-in
-      scratch-fresh =
-          rw scratch-book
-          (any-in-none (λ e. eqb (e .number) (word r (entry-at j))) (take j (book-of r))
-          (λ f i. ne-eqb (f .number) (word r (entry-at j)) (λ q. omega (arith, number-said r j x, below-number (sym (number-said r j x)) (t .rises) f i))))
+      -- entry j can be entered
+      pub entry-ready : Ready s (blocks-of r j) (word r (entry-at j))
+      entry-ready = record {
+        sound = ap sound (m .bytes) ∙ record-sound (device-of r) (take j (book-of r)) (m .limits);
+        sized = blocks-sized r j x (t .some-blocks) (t .few-blocks);
+        number = number-fits;
+        fresh = scratch-fresh;
+        room = rw (scratch-book, length-take-le j (book-of r) (omega (arith, in-book-still))) (omega (arith, x .few, x .runs));
+      }
 
-      -- THEOREM: one task more is entered
-      pub rebuilt-next : (n : ℕ) → n ≡ j + 1 → word r (entry-at j) < words
-          → fits (device-of s) (book-of s) (blocks-of r j) (getD r (entry-at j + 2) 0) (word r (entry-at j + 4)) ≡ true
-          → (u : List ℕ) → u ≡ record-of (device-of s) (insert (said r j) (book-of s)) → Rebuilt r u n
-      rebuilt-next n k small h u e =
+      -- one task more
+      rebuilt-next : (n : ℕ) → n ≡ j + 1 → (u : List ℕ) → (let e = said r j in Tried s (e .task) (e .number) (e .column) (e .bottom) u true) → Rebuilt r u n
+      rebuilt-next n k u v =
           let b = book-of r in
           let d = device-of r in
           let y = entry-of r j in
           let is = entry-said r j x (t .few-blocks) in
-          let f : fits d (take j b) (y .task) (y .column) (y .bottom) ≡ true = rw is (rw (scratch-device, scratch-book) at h) in
-          let below = below-number (sym (number-said r j x)) (t .rises) in
-          let more : insert y (take j b) ≡ take n b = rw (k, add-one) (insert-last y (take j b) below ∙ sym (take-suc b j no-entry in-book-still)) in
+          let f : fits d (take j b) (y .task) (y .column) (y .bottom) ≡ true = rw is (rw (scratch-device, scratch-book) at (v .fitted refl)) in
+          let more : insert y (take j b) ≡ take n b = rw (k, add-one) (insert-last y (take j b) below-number ∙ sym (take-suc b j no-entry in-book-still)) in
           let number = number-said r j x in
           record {
-            bytes = e ∙ (rw (scratch-device, scratch-book, ← is) (ap (record-of d) more));
-            limits = rw more at (insert-within d (take j b) (m .limits) y (rw scratch-book at scratch-room)
+            bytes = v .entered refl ∙ (rw (scratch-device, scratch-book, ← is) (ap (record-of d) more));
+            limits = rw more at (insert-within d (take j b) (m .limits) y (rw scratch-book at (entry-ready .room))
             (record {
               number-one = omega (arith, t .rises);
               number = omega arith;
-              sized = rw is (blocks-sized r j x (t .some-blocks) (t .few-blocks));
-              well-formed = rw is (t .formed);
+              sized = rw is (entry-ready .sized);
+              well-formed = rw is (v .formed refl);
               fits = fits-split d (take j b) (y .task) (y .column) (y .bottom) .0 f .0;
             })
-            (λ g i q. omega (arith, below g i)) f);
+            (λ g i q. omega (arith, below-number g i)) f);
           }
+
+      -- THEOREM: where entry j is entered, it is so as the record has it; and where it is refused, the record is not sound
+      pub entry-tried : (n : ℕ) → n ≡ j + 1 → (u : List ℕ) (ok : Bool) → (let e = said r j in Tried s (e .task) (e .number) (e .column) (e .bottom) u ok) → Step r u n ok
+      entry-tried n k u ok v = record {
+        made = λ e. rebuilt-next n k u (rw e at v);
+        refused = λ e. is-false (sound r) (λ y. v .refused e (sound-formed r j x y) (rw (scratch-device, scratch-book) (sound-fits r j x y)));
+      }
+
+-- the answers of a step
+pub step-refused : (r s : List ℕ) (n : ℕ) → sound r ≡ false → Step r s n false
+step-refused r s n h = record { made = λ e. absurd (false≢true e); refused = λ e. h }
+
+pub step-made : (r s : List ℕ) (n : ℕ) → Rebuilt r s n → Step r s n true
+step-made r s n m = record { made = λ e. m; refused = λ e. absurd (true≢false e) }
 
 -- ---- the whole record
 
 -- the device that r says, by its kind bytes
-pub device-said : (r : List ℕ) → length r ≡ record-size → getD r columns-at 0 ≤ max-columns
-    → device-of r ≡ record { rows = word r rows-at; kinds = take (kinds-at + getD r columns-at 0 - kinds-at) (drop kinds-at r) }
+pub device-said : (r : List ℕ) (n k : ℕ) → length r ≡ record-size → n ≡ word r rows-at → k ≡ getD r columns-at 0 → k ≤ max-columns
+    → record { rows = n; kinds = take (kinds-at + k - kinds-at) (drop kinds-at r) } ≡ device-of r
 unfolding device-of part
-device-said r l h =
-    let k = getD r columns-at 0 in
+device-said r n k l p q h =
     let e : kinds-at + k - kinds-at ≡ k = omega arith in
-    rw e (ap (λ (ks : List ℕ). record { rows = word r rows-at; kinds = ks }) (list-parts r kinds-at k 0 (omega arith)))
+    rw (e, p, ← q) (ap (λ (ks : List ℕ). record { rows = word r rows-at; kinds = ks }) (sym (list-parts r kinds-at k 0 (omega arith))))
 
 module _ (r : List ℕ) where
   pub refused-length : (length r ≡ record-size → ⊥) → false ≡ sound r
@@ -254,15 +311,15 @@ module _ (r : List ℕ) where
   pub refused-columns : max-columns < getD r columns-at 0 → false ≡ sound r
   refused-columns h = sym (is-false (sound r) (λ s. omega (arith, columns-said r, limits-to (device-of r) (book-of r) (sound-within r s) .columns)))
 
-  pub refused-device : device-ok (device-of r) ≡ false → false ≡ sound r
-  refused-device h = sym (is-false (sound r) (λ s. clash (within-device (device-of r) (book-of r) (sound-within r s)) h))
+  pub refused-device : (d : Device) (ok : Bool) → d ≡ device-of r → ok ≡ device-ok d → ok ≡ false → false ≡ sound r
+  refused-device d ok e v f = let h = ap device-ok (sym e) ∙ sym v ∙ f in sym (is-false (sound r) (λ s. clash (within-device (device-of r) (book-of r) (sound-within r s)) h))
+
+  -- nothing entered yet
+  pub rebuilt-none : (s : List ℕ) (d : Device) (ok : Bool) → d ≡ device-of r → ok ≡ device-ok d → ok ≡ true → s ≡ record-of d [] → Rebuilt r s 0
+  rebuilt-none s d ok e v t q = record { bytes = rw e at q; limits = within-new (device-of r) (ap device-ok (sym e) ∙ sym v ∙ t) }
 
   pub refused-running : max-running < getD r running-at 0 → sound r ≡ false
   refused-running h = is-false (sound r) (λ s. omega (arith, clauses-to r s .few-running))
-
-  -- nothing entered yet
-  pub rebuilt-none : (s : List ℕ) → device-ok (device-of r) ≡ true → s ≡ record-of (device-of r) [] → Rebuilt r s 0
-  rebuilt-none s v e = record { bytes = e; limits = within-new (device-of r) v }
 
   -- THEOREM: with all tasks entered, the record is sound just where it is equal to what was rebuilt
   pub rebuilt-all : (s : List ℕ) (ok : Bool) → Bytes r → Rebuilt r s (getD r running-at 0) → Same r s ok → ok ≡ sound r
