@@ -3,21 +3,20 @@ use Prim.Native.Nat.{ℕ, zero, suc, _+_, _-_, _*_, _%_, _≤_, _<_}
 use mathlib.Core.Path.{_≡_, refl, sym, ap, ap₂, _∙_}
 use mathlib.Core.Logic.{_⊎_, inl, inr}
 use mathlib.Core.Bool.{Bool, true, false, true≢false, false≢true}
-use mathlib.Core.List.{List, [], _∷_}
+use mathlib.Core.List.{List}
 use native.Mathlib.Omega.{arith}
-use native.Mathlib.Numerals.{add-one}
 use native.Mathlib.Nat.{zero-add}
 use lib.ListN.{length, getD, take, drop, length-take, length-drop}
 use lib.Seq.{ext-getD}
 use Rattle.runs.specs.Intervals.{Interval, interval, Holds}
-use Rattle.model.specs.Limits.{max-rows, max-columns, max-intervals, record-size, reach, columns-at, kinds-at, column-size, interval-size}
-use Rattle.model.specs.Columns.{Device, columns, height, kind}
+use Rattle.model.specs.Limits.{max-rows, max-columns, reach, columns-at, kinds-at, column-size, interval-size}
+use Rattle.model.specs.Columns.{columns, height, kind}
 use Rattle.model.specs.Tasks.{Block, word, blocks, block, sized, well-formed}
-use Rattle.model.specs.Book.{Book, intervals, block-fits, fits}
+use Rattle.model.specs.Book.{intervals, block-fits, fits}
 use Rattle.model.specs.Record.{part, column-at, device-of, book-of, listed-intervals}
 use Rattle.model.specs.Sound.{count-of, sound}
 use Rattle.model.specs.Laws.Bounded.{clash, is-false, same-test, true-or-false, last-or}
-use Rattle.model.specs.Laws.Tasks.{Solid, Sized, sized-to, solid-block}
+use Rattle.model.specs.Laws.Tasks.{sized-to, solid-block}
 use Rattle.model.specs.Laws.Fits.{Fitting, fitting-to, fitting-of, fits-to, fits-of, fits-below}
 use Rattle.model.specs.Laws.Limits.{limits-to}
 use Rattle.model.specs.Laws.Ends.{fits-held, held-fits}

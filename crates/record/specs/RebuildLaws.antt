@@ -1,7 +1,7 @@
 -- Why `sound` is right: in a sound record every running task passes each test and may be entered after those before it, and a record that is equal to what
 -- was rebuilt is sound. Assumes nothing.
 use Prim.Native.Nat.{ℕ, zero, suc, _+_, _-_, _*_, _/_, _%_, _≤_, _<_}
-use mathlib.Core.Path.{_≡_, refl, sym, ap, ap₂, _∙_}
+use mathlib.Core.Path.{_≡_, refl, sym, ap, _∙_}
 use mathlib.Core.Logic.{_⊎_, inl, inr}
 use mathlib.Core.Bool.{Bool, true, false, true≢false, false≢true}
 use mathlib.Core.List.{List, [], _∷_, _++_}
@@ -15,8 +15,8 @@ use borrow.Author.Tests.{le-leb, le-ltb, eq-eqb, ne-eqb}
 use Rattle.runs.specs.Laws.Tests.{tests}
 use Rattle.model.specs.Limits.{max-running, max-number, max-blocks, block-size, record-size, words, rows-at, columns-at, running-at, kinds-at, max-columns, entry-size, blocks-at}
 use Rattle.model.specs.Columns.{Device, columns, height, kind, device-ok}
-use Rattle.model.specs.Tasks.{word, blocks, sized, well-formed}
-use Rattle.model.specs.Book.{Running, Book, placed, covered, standing, held, fits}
+use Rattle.model.specs.Tasks.{word, sized, well-formed}
+use Rattle.model.specs.Book.{Running, Book, covered, standing, held, fits}
 use Rattle.model.specs.Record.{record-of, part, entry-at, device-of, running-of, book-of}
 use Rattle.model.specs.Sound.{number-ok, within, block-count, sound}
 use Rattle.model.specs.Calls.{insert, runs-in}
@@ -95,15 +95,18 @@ module _ (d : Device) (b : Book) (j : ℕ) (q : j < length b) where
       let l = limits-to d b w in
       let i = getD-in b j no-entry q in
       let n = l .entries e i in
-      fits-split d (take j b) (e .task) (e .column) (e .bottom) .1 (n .fits, λ c z h. is-false (held (take j b) c z) (λ k.
-      let (f, m, g) = any-in-to (λ f. covered (standing f) c z) (take j b) k in
-      let o = taken-below 0 b (l .rising) j q f m in
-      let u = height (kind d c) in
-      let s : u * (z / u) + z % u ≡ z = div-add-mod z u in
-      let r : z % u < u = mod-lt z (height-pos (kind d c)) in
-      apart-cells d b w e f i (take-in b j f m) (λ p. omega arith) c (z / u)
-      (sym (covered-holds d e n c (z / u) (z % u) r) ∙ (rw s h))
-      (sym (covered-holds d f (l .entries f (take-in b j f m)) c (z / u) (z % u) r) ∙ (rw s g))))
+      fits-split d (take j b) (e .task) (e .column) (e .bottom) .1 (
+        n .fits,
+        λ c z h. is-false (held (take j b) c z) (λ k.
+            let (f, m, g) = any-in-to (λ f. covered (standing f) c z) (take j b) k in
+            let o = taken-below 0 b (l .rising) j q f m in
+            let u = height (kind d c) in
+            let s : u * (z / u) + z % u ≡ z = div-add-mod z u in
+            let r : z % u < u = mod-lt z (height-pos (kind d c)) in
+            apart-cells d b w e f i (take-in b j f m) (λ p. omega arith) c (z / u)
+            (sym (covered-holds d e n c (z / u) (z % u) r) ∙ (rw s h))
+            (sym (covered-holds d f (l .entries f (take-in b j f m)) c (z / u) (z % u) r) ∙ (rw s g))),
+      )
 
 -- ---- what entry j says
 
@@ -270,14 +273,14 @@ module _ (r s : List ℕ) (j : ℕ) (m : Rebuilt r s j) where
           record {
             bytes = v .entered refl ∙ (rw (scratch-device, scratch-book, ← is) (ap (record-of d) more));
             limits = rw more at (insert-within d (take j b) (m .limits) y (rw scratch-book at (entry-ready .room))
-            (record {
-              number-one = omega (arith, t .rises);
-              number = omega arith;
-              sized = rw is (entry-ready .sized);
-              well-formed = rw is (v .formed refl);
-              fits = fits-split d (take j b) (y .task) (y .column) (y .bottom) .0 f .0;
-            })
-            (λ g i q. omega (arith, below-number g i)) f);
+                (record {
+                  number-one = omega (arith, t .rises);
+                  number = omega arith;
+                  sized = rw is (entry-ready .sized);
+                  well-formed = rw is (v .formed refl);
+                  fits = fits-split d (take j b) (y .task) (y .column) (y .bottom) .0 f .0;
+                })
+                (λ g i q. omega (arith, below-number g i)) f);
           }
 
       -- THEOREM: where entry j is entered, it is so as the record has it; and where it is refused, the record is not sound

@@ -1,9 +1,17 @@
 // Whether a task fits at a position: every block stands in a column of its kind, on the grid, in one free interval.
-use column::{holder, Held};
-use model::{MAX_ROWS, REACH, COLUMNS_AT, KINDS_AT, COUNTS_AT, INTERVALS_AT, COLUMN_SIZE, BLOCK_SIZE};
-use task::{block_at, Block};
+use column::Held;
+use column::holder;
+use model::BLOCK_SIZE;
+use model::COLUMN_SIZE;
+use model::COLUMNS_AT;
+use model::COUNTS_AT;
+use model::INTERVALS_AT;
+use model::KINDS_AT;
+use model::MAX_ROWS;
+use model::REACH;
+use task::Block;
+use task::block_at;
 use words::wide;
-
 ghost use mathlib.Core.Path.{_≡_};
 ghost use mathlib.Core.Bool.{true};
 ghost use Rattle.model.specs.Tasks.{sized, well-formed};

@@ -1,24 +1,13 @@
 -- `record::fits::block_fits`: each test that refuses is one of the model's. Assumes nothing.
-use borrow.Author.Needs.{needs}
 use Prim.Native.Nat.{_≤_}
-use mathlib.Core.Path.{_≡_, sym, _∙_}
+use mathlib.Core.Path.{sym, _∙_}
 use native.Mathlib.Omega.{arith}
-use Rattle.model.specs.Laws.Columns.{height-two}
-use Rattle.model.specs.Laws.Sound.{sound-length}
-use Rattle.record.specs.FitsLaws.{few-columns, sound-listed, refused-column, refused-kind, refused-below, refused-grid, held-block}
-use mathlib.Core.Path.{_≡_, sym, _∙_}
-use native.Mathlib.Omega.{arith}
+use borrow.Author.Needs.{needs}
 use Rattle.model.specs.Laws.Columns.{height-two}
 use Rattle.model.specs.Laws.Sound.{sound-length}
 use Rattle.record.specs.FitsLaws.{few-columns, sound-listed, refused-column, refused-kind, refused-below, refused-grid, held-block}
 use Rattle.record.proofs.fits.block_fits.Statement.{statement}
 use Rattle.record.proofs.fits.block_fits.Tie as tie
-use Rattle.record.proofs.fits.block_fits.Reads as reads
-use Rattle.record.proofs.fits.block_fits.Lts as lts
-use Rattle.model.proofs.Kind.number.Reads as number-reads
-use Rattle.record.proofs.fits.holds.Reads as holds-reads
-use Rattle.task.proofs.Block.height.Reads as height-reads
-use Rattle.words.proofs.wide.Reads as wide-reads
 
 add-c : tie.Need-add-c
 add-c c = search needs

@@ -1,17 +1,7 @@
 -- `record::fits::fits`: the loop's invariant says that the blocks so far fit (`Fit`). Assumes nothing.
+use Prim.Native.Nat.{_-_}
+use native.Mathlib.Omega.{arith}
 use borrow.Author.Needs.{needs}
-use Prim.Native.Nat.{_-_}
-use mathlib.Core.Path.{_≡_}
-use native.Mathlib.Omega.{arith}
-use borrow.Author.Tests.{not-true, not-false}
-use Rattle.model.specs.Tasks.{blocks}
-use Rattle.model.specs.Laws.Sound.{sound-length}
-use Rattle.model.specs.Laws.Tasks.{solid-block}
-use Rattle.task.specs.Laws.{same-seen}
-use Rattle.record.specs.FitsLaws.{off-column, off-bottom, movable, Fit, fit-none, fit-next, fit-all, misfit}
-use Prim.Native.Nat.{_-_}
-use mathlib.Core.Path.{_≡_, sym, ap, _∙_}
-use native.Mathlib.Omega.{arith}
 use borrow.Author.Tests.{not-true, not-false}
 use Rattle.model.specs.Tasks.{blocks}
 use Rattle.model.specs.Laws.Sound.{sound-length}
@@ -20,11 +10,6 @@ use Rattle.task.specs.Laws.{same-seen}
 use Rattle.record.specs.FitsLaws.{off-column, off-bottom, movable, Fit, fit-none, fit-next, fit-all, misfit}
 use Rattle.record.proofs.fits.fits.Statement.{statement}
 use Rattle.record.proofs.fits.fits.Tie as tie
-use Rattle.record.proofs.fits.fits.Reads as reads
-use Rattle.record.proofs.fits.fits.Lts as lts
-use Rattle.record.proofs.fits.block_fits.Reads as block-fits-reads
-use Rattle.task.proofs.block_at.Reads as block-at-reads
-use Rattle.words.proofs.wide.Reads as wide-reads
 
 abbrev Inv-loop : tie.InvT-loop
 Inv-loop «record» task column bottom count i₀ i = Fit «record» task column bottom i

@@ -1,13 +1,8 @@
 -- `record::fits::holds`: what the search of the column's part answers is said of the intervals that the record lists. Assumes nothing.
 use borrow.Author.Needs.{needs}
-use native.Mathlib.Omega.{arith}
 use Rattle.record.specs.FitsLaws.{lent-is, held-in, held-nowhere}
 use Rattle.record.proofs.fits.holds.Statement.{statement}
 use Rattle.record.proofs.fits.holds.Tie as tie
-use Rattle.record.proofs.fits.holds.Reads as reads
-use Rattle.record.proofs.fits.holds.Lts as lts
-use Rattle.column.proofs.holder.Reads as holder-reads
-use Rattle.words.proofs.wide.Reads as wide-reads
 
 mul-a : tie.Need-mul-a
 mul-a c = search needs

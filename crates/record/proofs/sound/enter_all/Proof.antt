@@ -1,19 +1,14 @@
 -- `record::sound::enter_all`: the loop's invariant says that the entries so far are rebuilt. Assumes nothing.
-use borrow.Author.Needs.{needs}
 use Prim.Native.Nat.{_-_, _≤_}
-use mathlib.Core.Path.{_≡_, refl, sym, _∙_}
+use mathlib.Core.Path.{_≡_, refl}
 use native.Mathlib.Omega.{arith}
+use borrow.Author.Needs.{needs}
 use borrow.Author.Tests.{not-true, not-false}
 use lib.ListN.{length}
-use Rattle.model.specs.Limits.{running-at}
 use Rattle.record.specs.Rebuild.{Rebuilt}
 use Rattle.record.specs.RebuildLaws.{refused-running, step-refused, step-made}
 use Rattle.record.proofs.sound.enter_all.Statement.{statement}
 use Rattle.record.proofs.sound.enter_all.Tie as tie
-use Rattle.record.proofs.sound.enter_all.Reads as reads
-use Rattle.record.proofs.sound.enter_all.Lts as lts
-use Rattle.record.proofs.sound.enter_entry.Reads as enter-entry-reads
-use Rattle.words.proofs.wide.Reads as wide-reads
 
 abbrev Inv-loop : tie.InvT-loop
 Inv-loop scratch₀ «record» running j₀ scratch j = (j ≤ running) × (length scratch ≡ length scratch₀) × Rebuilt «record» scratch j

@@ -1,17 +1,11 @@
 -- `record::sound::enter_entry`: what the entry's bytes say is tried in the scratch record. Assumes nothing.
-use borrow.Author.Needs.{needs}
 use mathlib.Core.Path.{refl}
 use native.Mathlib.Omega.{arith}
+use borrow.Author.Needs.{needs}
 use borrow.Author.Tests.{not-true, not-false}
 use Rattle.record.specs.RebuildLaws.{step-refused, entry-ready, entry-tried}
 use Rattle.record.proofs.sound.enter_entry.Statement.{statement}
 use Rattle.record.proofs.sound.enter_entry.Tie as tie
-use Rattle.record.proofs.sound.enter_entry.Reads as reads
-use Rattle.record.proofs.sound.enter_entry.Lts as lts
-use Rattle.record.proofs.sound.enter_task.Reads as enter-task-reads
-use Rattle.record.proofs.sound.entry_ok.Reads as entry-ok-reads
-use Rattle.words.proofs.get16.Reads as get16-reads
-use Rattle.words.proofs.wide.Reads as wide-reads
 
 entry-ok-requires : tie.Need-entry-ok-requires
 entry-ok-requires c κs = search needs

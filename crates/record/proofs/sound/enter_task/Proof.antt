@@ -1,15 +1,10 @@
 -- `record::sound::enter_task`: a task that is not well-formed, one that does not fit, and one that is entered. Assumes nothing.
-use borrow.Author.Needs.{needs}
 use mathlib.Core.Path.{sym, _∙_}
+use borrow.Author.Needs.{needs}
 use borrow.Author.Tests.{not-true, not-false}
 use Rattle.record.specs.RebuildLaws.{tried-formless, tried-misfit, tried-entered}
 use Rattle.record.proofs.sound.enter_task.Statement.{statement}
 use Rattle.record.proofs.sound.enter_task.Tie as tie
-use Rattle.record.proofs.sound.enter_task.Reads as reads
-use Rattle.record.proofs.sound.enter_task.Lts as lts
-use Rattle.record.proofs.enter.enter.Reads as enter-reads
-use Rattle.record.proofs.fits.fits.Reads as fits-reads
-use Rattle.task.proofs.well_formed.Reads as well-formed-reads
 
 well-formed-requires : tie.Need-well-formed-requires
 well-formed-requires c κs = search needs
@@ -36,8 +31,7 @@ enter-requires c κs =
     let h = t .before in
     let o = h .before .before in
     let f = o .before in
-    let z = f .before .before .before .pre in
-    (
+    let z = f .before .before .before .pre in (
       z .sound,
       z .sized,
       sym (f .well-formed .ensures) ∙ not-false _ (o .if1 .left),

@@ -1,14 +1,10 @@
 -- `record::sound::entry_ok`: an entry of a sound record passes each test. Assumes nothing.
-use borrow.Author.Needs.{needs}
 use native.Mathlib.Omega.{arith}
+use borrow.Author.Needs.{needs}
 use borrow.Author.Tests.{not-true, not-false}
 use Rattle.record.specs.RebuildLaws.{refused-number, refused-none, checked}
 use Rattle.record.proofs.sound.entry_ok.Statement.{statement}
 use Rattle.record.proofs.sound.entry_ok.Tie as tie
-use Rattle.record.proofs.sound.entry_ok.Reads as reads
-use Rattle.record.proofs.sound.entry_ok.Lts as lts
-use Rattle.record.proofs.sound.rises.Reads as rises-reads
-use Rattle.words.proofs.wide.Reads as wide-reads
 
 rises-requires : tie.Need-rises-requires
 rises-requires c κs = search needs

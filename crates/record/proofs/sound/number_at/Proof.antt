@@ -1,12 +1,9 @@
 -- `record::sound::number_at`: the first two bytes of the entry. Assumes nothing.
-use borrow.Author.Needs.{needs}
 use mathlib.Core.Path.{sym, _∙_}
+use borrow.Author.Needs.{needs}
 use Rattle.record.specs.RebuildLaws.{number-said}
 use Rattle.record.proofs.sound.number_at.Statement.{statement}
 use Rattle.record.proofs.sound.number_at.Tie as tie
-use Rattle.record.proofs.sound.number_at.Reads as reads
-use Rattle.record.proofs.sound.number_at.Lts as lts
-use Rattle.words.proofs.get16.Reads as get16-reads
 
 mul-get16 : tie.Need-mul-get16
 mul-get16 c = search needs

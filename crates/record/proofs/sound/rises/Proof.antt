@@ -3,9 +3,6 @@ use borrow.Author.Needs.{needs}
 use Rattle.record.specs.RebuildLaws.{rises-first, rises-next}
 use Rattle.record.proofs.sound.rises.Statement.{statement}
 use Rattle.record.proofs.sound.rises.Tie as tie
-use Rattle.record.proofs.sound.rises.Reads as reads
-use Rattle.record.proofs.sound.rises.Lts as lts
-use Rattle.record.proofs.sound.number_at.Reads as number-at-reads
 
 number-at-requires : tie.Need-number-at-requires
 number-at-requires c κs = search needs

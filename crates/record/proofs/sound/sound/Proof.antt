@@ -1,22 +1,14 @@
 -- `record::sound::sound`: the bytes are sound just where they are what was rebuilt from what they say. Assumes nothing.
-use borrow.Author.Needs.{needs}
 use Prim.Native.Nat.{ℕ}
+use mathlib.Core.Path.{sym, _∙_}
+use native.Mathlib.Omega.{arith}
+use borrow.Author.Needs.{needs}
+use borrow.Author.Tests.{not-true, not-false}
 use lib.ListN.{length-replicate}
 use Rattle.model.specs.Limits.{record-size}
-use mathlib.Core.Path.{_≡_, sym, _∙_}
-use native.Mathlib.Omega.{arith}
-use borrow.Author.Tests.{not-true, not-false}
 use Rattle.record.specs.RebuildLaws.{device-said, refused-length, refused-columns, refused-device, rebuilt-none, rebuilt-all}
 use Rattle.record.proofs.sound.sound.Statement.{statement}
 use Rattle.record.proofs.sound.sound.Tie as tie
-use Rattle.record.proofs.sound.sound.Reads as reads
-use Rattle.record.proofs.sound.sound.Lts as lts
-use Rattle.record.proofs.clear.clear.Reads as clear-reads
-use Rattle.record.proofs.device.device_ok.Reads as device-ok-reads
-use Rattle.record.proofs.sound.enter_all.Reads as enter-all-reads
-use Rattle.words.proofs.equal.Reads as equal-reads
-use Rattle.words.proofs.get16.Reads as get16-reads
-use Rattle.words.proofs.wide.Reads as wide-reads
 
 returns : tie.Need-returns
 returns c = refused-length _ (c .if1 .taken)
