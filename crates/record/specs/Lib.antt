@@ -2,3 +2,4 @@
 pub mod Device
 pub mod Clear
 pub mod Entries
+pub mod Enter
