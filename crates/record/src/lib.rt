@@ -2,5 +2,6 @@
 pub mod clear;
 pub mod device;
 pub mod enter;
+pub mod entries;
 pub mod fits;
 pub mod sound;
