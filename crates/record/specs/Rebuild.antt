@@ -9,7 +9,7 @@ use Rattle.model.specs.Tasks.{word, sized, well-formed}
 use Rattle.model.specs.Book.{Running, Book, fits}
 use Rattle.model.specs.Record.{record-of, entry-at, device-of, book-of}
 use Rattle.model.specs.Sound.{number-ok, within, block-count, sound}
-use Rattle.model.specs.Calls.{insert, runs-in}
+use Rattle.model.specs.Calls.{insert}
 use Rattle.model.specs.Laws.Record.{no-entry}
 
 -- running task j of r
@@ -56,7 +56,6 @@ pub record Ready (s t : List ℕ) (n : ℕ) : Type 0 where
   pub sound : sound s ≡ true
   pub sized : sized t ≡ true
   pub number : number-ok n ≡ true
-  pub fresh : runs-in (book-of s) n ≡ false
   pub room : length (book-of s) < max-running
 
 -- the answer ok, and the record u after it

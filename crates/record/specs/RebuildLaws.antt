@@ -8,7 +8,7 @@ use mathlib.Core.List.{List, [], _∷_, _++_}
 use native.Mathlib.Omega.{arith}
 use native.Mathlib.Numerals.{add-one}
 use native.Mathlib.Nat.{add-zero, div-add-mod, mod-lt}
-use lib.Dec.{leb, ltb, eqb}
+use lib.Dec.{leb, ltb}
 use lib.ListN.{length, getD, take, drop, length-take, length-drop}
 use lib.Seq.{take-suc, take-all, length-take-le}
 use borrow.Author.Tests.{le-leb, le-ltb, eq-eqb, ne-eqb}
@@ -19,8 +19,8 @@ use Rattle.model.specs.Tasks.{word, sized, well-formed}
 use Rattle.model.specs.Book.{Running, Book, covered, standing, held, fits}
 use Rattle.model.specs.Record.{record-of, part, entry-at, device-of, running-of, book-of}
 use Rattle.model.specs.Sound.{number-ok, within, block-count, sound}
-use Rattle.model.specs.Calls.{insert, runs-in}
-use Rattle.model.specs.Laws.Bounded.{clash, is-false, same-test, true-or-false, In, any-in-to, any-in-none}
+use Rattle.model.specs.Calls.{insert}
+use Rattle.model.specs.Laws.Bounded.{clash, is-false, same-test, true-or-false, In, any-in-to}
 use Rattle.model.specs.Laws.Columns.{height-pos}
 use Rattle.model.specs.Laws.Limits.{Rising, Entry, limits-to, within-device, rising-above}
 use Rattle.model.specs.Laws.Cells.{covered-holds}
@@ -237,13 +237,6 @@ module _ (r s : List ℕ) (j : ℕ) (m : Rebuilt r s j) where
     below-number f i =
         omega (arith, t .rises, prior-above 0 (book-of r) j (limits-to (device-of r) (take j (book-of r)) (m .limits) .rising) (omega (arith, in-book-still)) f i)
 
-    scratch-fresh : runs-in (book-of s) (word r (entry-at j)) ≡ false
-    unfolding runs-in
-    scratch-fresh =
-        rw scratch-book
-        (any-in-none (λ e. eqb (e .number) (word r (entry-at j))) (take j (book-of r))
-        (λ f i. ne-eqb (f .number) (word r (entry-at j)) (λ q. omega (arith, number-said r j x, below-number f i))))
-
     module _ (small : word r (entry-at j) < words) where
       number-fits : number-ok (word r (entry-at j)) ≡ true
       unfolding number-ok
@@ -256,7 +249,6 @@ module _ (r s : List ℕ) (j : ℕ) (m : Rebuilt r s j) where
         sound = ap sound (m .bytes) ∙ record-sound (device-of r) (take j (book-of r)) (m .limits);
         sized = blocks-sized r j x (t .some-blocks) (t .few-blocks);
         number = number-fits;
-        fresh = scratch-fresh;
         room = rw (scratch-book, length-take-le j (book-of r) (omega (arith, in-book-still))) (omega (arith, x .few, x .runs));
       }
 

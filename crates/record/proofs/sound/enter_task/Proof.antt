@@ -32,13 +32,13 @@ enter-requires c κs =
     let o = h .before .before in
     let f = o .before in
     let z = f .before .before .before .pre in (
-      z .sound,
-      z .sized,
-      sym (f .well-formed .ensures) ∙ not-false _ (o .if1 .left),
-      z .number,
-      z .fresh,
-      z .room,
-      sym (h .fits2 .ensures) ∙ not-false _ (t .if2 .left),
+      record {
+        sound = z .sound;
+        sized = z .sized;
+        well-formed = sym (f .well-formed .ensures) ∙ not-false _ (o .if1 .left);
+        fits = sym (h .fits2 .ensures) ∙ not-false _ (t .if2 .left);
+      },
+      (z .number, z .room),
     )
 
 same-length-2 : tie.Need-same-length-2
