@@ -3,3 +3,4 @@ pub mod Device
 pub mod Clear
 pub mod Entries
 pub mod Enter
+pub mod Leave

@@ -3,3 +3,4 @@ pub mod clear;
 pub mod device;
 pub mod enter;
 pub mod entries;
+pub mod leave;
