@@ -6,10 +6,10 @@ use mathlib.Core.List.{List, [], _∷_, _++_}
 use native.Mathlib.Omega.{arith}
 use native.Mathlib.Nat.{add-zero, sub-zero, zero-sub, suc-sub-suc}
 use native.Mathlib.Decide.{decLt, ℕ-discrete}
-use lib.Dec.{ltb, eqb}
-use lib.ListN.{length, getD, set, take, drop, replicate, length-append, length-take, length-drop, length-set, length-replicate}
+use lib.Dec.{eqb}
+use lib.ListN.{length, getD, set, take, drop, replicate, length-append, length-take, length-drop, length-replicate}
 use borrow.Author.Tests.{lt-ltb, le-ltb, eq-eqb, ne-eqb}
-use Rattle.model.specs.Limits.{max-running, max-blocks, block-size, record-size, running-at, entry-size, blocks-at}
+use Rattle.model.specs.Limits.{max-running, block-size, record-size, running-at, entry-size, blocks-at}
 use Rattle.model.specs.Bounded.{any-in}
 use Rattle.model.specs.Columns.{Device}
 use Rattle.model.specs.Tasks.{word, blocks, sized}

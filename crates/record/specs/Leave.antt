@@ -1,21 +1,21 @@
 -- A running task's blocks joined to the free intervals one after the other, and the record when all are joined. Assumes nothing.
-use Prim.Native.Nat.{ℕ, zero, suc, _+_, _-_, _*_, _/_, _≤_, _<_}
-use mathlib.Core.Path.{_≡_, refl, sym, ap, ap₂, _∙_}
+use Prim.Native.Nat.{ℕ, zero, suc, _+_, _-_, _*_, _≤_, _<_}
+use mathlib.Core.Path.{_≡_, refl, sym, ap, _∙_}
 use mathlib.Core.Logic.{_⊎_, inl, inr, _↔_, _≢_}
 use mathlib.Core.Bool.{Bool, true, false, _||_}
-use mathlib.Core.List.{List, [], _∷_, _++_}
+use mathlib.Core.List.{List, [], _++_}
 use native.Mathlib.Omega.{arith}
 use native.Mathlib.Decide.{ℕ-discrete}
 use native.Mathlib.Numerals.{add-one}
 use lib.ListN.{length, getD, take, drop}
 use Rattle.runs.specs.Intervals.{unite, OnGrid}
 use Rattle.runs.specs.Laws.Intervals.{intervals-free, free-intervals, unite-free, unite-grid}
-use Rattle.model.specs.Limits.{max-columns, max-blocks, max-running, block-size, reach, words, record-size, running-at, column-size, entry-size, blocks-at}
+use Rattle.model.specs.Limits.{max-columns, max-blocks, max-running, block-size, reach, record-size, running-at, column-size, entry-size, blocks-at}
 use Rattle.model.specs.Bounded.{any-below}
 use Rattle.model.specs.Columns.{Device, height, kind, top}
 use Rattle.model.specs.Tasks.{word, block, blocks}
 use Rattle.model.specs.Book.{Running, Book, Placed, placed, covers, covered, standing, free, intervals}
-use Rattle.model.specs.Record.{part, column-at, entry-at, entry-part, image, record-of, device-of, running-of, book-of}
+use Rattle.model.specs.Record.{part, column-at, entry-at, image, record-of, device-of, running-of, book-of}
 use Rattle.model.specs.Calls.{without, runs-in}
 use Rattle.model.specs.Sound.{within, sound, count-of, block-count}
 use Rattle.model.specs.Laws.Bounded.{In, or-to, or-of, same-test, clash}
@@ -28,7 +28,7 @@ use Rattle.model.specs.Laws.Clauses.{clauses-to}
 use Rattle.model.specs.Laws.Record.{put-column, Shows, image-shows, image-cong, shows-image, record-shows, running-read, no-entry}
 use Rattle.model.specs.Laws.ColumnPart.{word-part}
 use Rattle.model.specs.Laws.WriteBack.{Bytes}
-use Rattle.model.specs.Laws.ReadBack.{getD-in, entry-in}
+use Rattle.model.specs.Laws.ReadBack.{getD-in}
 use Rattle.model.specs.Laws.Sound.{running-said, sound-length, sound-within, sound-record}
 use Rattle.task.specs.declared.Block.{Block as Read}
 use Rattle.task.specs.Blocks.{Same}

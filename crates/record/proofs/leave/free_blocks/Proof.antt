@@ -1,8 +1,6 @@
 -- `record::leave::free_blocks`: the first i blocks are freed (`Freeing`). Assumes nothing.
-use Prim.Native.Nat.{_+_, _-_, _≤_}
-use mathlib.Core.Path.{_≡_, sym, ap, _∙_}
+use Prim.Native.Nat.{_-_}
 use native.Mathlib.Omega.{arith}
-use borrow.Author.Needs.{needs}
 use Rattle.model.specs.Record.{part}
 use Rattle.record.specs.Leave.{Freeing, freeing, in-entries, freed-length, blocks-there, block-there, block-room, block-freed, all-freed}
 use Rattle.record.proofs.leave.free_blocks.Statement.{statement}
