@@ -7,3 +7,4 @@ pub mod Fits
 pub mod FitsLaws
 pub mod Rebuild
 pub mod RebuildLaws
+pub mod Leave
