@@ -1,0 +1,3 @@
+-- What the contracts of this crate cite. What is proved of it stands under Laws.
+pub mod Fields
+pub mod Laws
