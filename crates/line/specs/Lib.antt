@@ -1,3 +1,4 @@
 -- What the contracts of this crate cite. What is proved of it stands under Laws.
 pub mod Fields
+pub mod Calls
 pub mod Laws

@@ -41,7 +41,7 @@ pub enum Height {
 // Where the field that starts at `at` ends.
 pub fn field_end(line: &[u8], at: usize) -> usize
     requires { ⌜ at ≤ length (now line) ⌝ }
-    ensures { λ r. ⌜ r ≡ at + length (word (drop at (now (line .entry)))) ⌝ }
+    ensures { λ r. ⌜ (r ≡ at + length (word (drop at (now (line .entry))))) × (r ≤ length (now (line .entry))) ⌝ }
 {
     let mut i = at;
     while i < line.len() {

@@ -13,8 +13,11 @@ use lib.Dec.{leb, ltb, eqb, leb·suc-suc}
 use borrow.Author.Tests.{eq-eqb, ne-eqb, lt-ltb, le-ltb, le-leb, lt-leb, ltb-false, leb-true}
 use Rattle.runs.specs.Laws.Tests.{tests, cond-ind, lt-or-ge}
 use Rattle.model.specs.Bounded.{all-in}
-use Rattle.model.specs.Sheet.{grown, fields, digit, decimal, natural, provided}
-use Rattle.line.specs.Fields.{word, after, most-read, small, capped, digits-of}
+use Rattle.model.specs.Sheet.{grown, fields, digit, decimal, natural, number, provided, natural-field, height-field}
+use Rattle.line.specs.Fields.{word, after, most-read, small, capped, digits-of, one-byte, natural-with, height-with, byte-at, natural-at, height-at}
+use Rattle.line.specs.declared.fields.One.the-variants as one
+use Rattle.line.specs.declared.fields.Natural.the-variants as nat
+use Rattle.line.specs.declared.fields.Height.the-variants as high
 use Rattle.line.specs.declared.fields.Digits.{Digits}
 use Rattle.line.specs.declared.fields.Digits.the-variants as digits
 
@@ -109,6 +112,65 @@ word-end s i h = rw (drop-of-length-le s h)
 pub digits-end : (s : List ℕ) (i v : ℕ) → length s ≤ i → v ≤ most-read → digits-of v (drop i s) ≡ digits.Value v
 unfolding digits-of all-in decimal
 digits-end s i v h l = rw (drop-of-length-le s h, le-leb v most-read l)
+
+-- ---- a field as the part of the line up to its end
+
+word-take : (l : List ℕ) → take (length (word l)) l ≡ word l
+unfolding word
+word-take [] = refl
+word-take (x ∷ l) = go (eqb x 32) (word-take l)
+  where
+    go : (t : Bool) → take (length (word l)) l ≡ word l → take (length (cond t [] (x ∷ word l))) (x ∷ l) ≡ cond t [] (x ∷ word l)
+    go true e = refl
+    go false e = rw e
+
+module _ (s : List ℕ) (at end : ℕ) (ends : end ≡ at + length (word (drop at s))) where
+  field-part : take (end - at) (drop at s) ≡ word (drop at s)
+  field-part = let e : end - at ≡ length (word (drop at s)) = omega arith in rw e (word-take (drop at s))
+
+  after-is : after s at ≡ end + 1
+  unfolding after
+  after-is = omega arith
+
+  pub natural-read : (most : ℕ) → natural-at s at most ≡ natural-with (natural-field most (take (end - at) (drop at s))) (end + 1)
+  unfolding natural-at
+  natural-read most = rw (field-part, after-is)
+
+  pub height-read : height-at s at ≡ height-with (height-field (take (end - at) (drop at s))) (end + 1)
+  unfolding height-at
+  height-read = rw (field-part, after-is)
+
+  -- a field of one byte, and a field of another length
+  pub byte-read : end - at ≡ 1 → at < length s → byte-at s at ≡ one.Byte (getD s at 0) (end + 1)
+  unfolding byte-at
+  byte-read e h = rw (← field-part, e, drop-cons s at 0, after-is)
+
+  pub byte-none : (end - at ≡ 1 → ⊥) → byte-at s at ≡ one.Bad
+  unfolding byte-at
+  byte-none h = go (word (drop at s)) (λ e. h (omega arith))
+    where
+      go : (l : List ℕ) → (length l ≡ 1 → ⊥) → one-byte l (after s at) ≡ one.Bad
+      go [] n = refl
+      go (x ∷ []) n = absurd (n refl)
+      go (x ∷ y ∷ l) n = refl
+
+-- past the end there is no field
+module _ (s : List ℕ) (at : ℕ) (past : length s ≤ at) where
+  empty : word (drop at s) ≡ []
+  unfolding word
+  empty = rw (drop-of-length-le s past)
+
+  pub byte-past : byte-at s at ≡ one.Bad
+  unfolding byte-at
+  byte-past = rw empty
+
+  pub natural-past : (most : ℕ) → natural-at s at most ≡ nat.Bad
+  unfolding natural-at natural-field natural
+  natural-past most = rw empty
+
+  pub height-past : height-at s at ≡ high.Bad
+  unfolding height-at height-field number
+  height-past = rw empty
 
 -- ---- the fields of a line
 
