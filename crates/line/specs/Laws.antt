@@ -1,3 +1,4 @@
 -- What is proved of the definitions.
 pub mod Fields
 pub mod Numbers
+pub mod Calls

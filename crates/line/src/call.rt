@@ -42,10 +42,9 @@ fn provided(unused: bool, call: Call) -> Line
     ensures { λ r. ⌜ said r ≡ provided unused (call-said call) ⌝ }
 {
     if unused {
-        Line::Does(call)
-    } else {
-        Line::Malformed
+        return Line::Does(call);
     }
+    Line::Malformed
 }
 
 // Whether kind and top are unused.

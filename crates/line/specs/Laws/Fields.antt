@@ -27,7 +27,7 @@ pub cond-same {ℓ} : {A : Type ℓ} (b : Bool) (x : A) → cond b x x ≡ x
 cond-same true x = refl
 cond-same false x = refl
 
-and-right : (b : Bool) → (b && false) ≡ false
+pub and-right : (b : Bool) → (b && false) ≡ false
 and-right true = refl
 and-right false = refl
 

@@ -1,34 +1,32 @@
+-- `line::call::block` meets its contract.
 use borrow.Author.Needs.{needs}
+use borrow.Author.Tests.{eq-eqb, ne-eqb}
+use mathlib.Core.Path.{_≡_, sym, ap, _∙_}
+use mathlib.Core.Option.{some}
+use mir.Facts.{toZ-ofZ}
+use Rattle.model.specs.Kinds.{number-of}
+use Rattle.model.specs.Sheet.{kind-letter}
+use Rattle.line.specs.Fields.{kind-said}
+use Rattle.line.specs.Calls.{block-said}
 use Rattle.line.proofs.call.block.Statement.{statement}
 use Rattle.line.proofs.call.block.Tie as tie
-use Rattle.line.proofs.call.block.Reads as reads
-use Rattle.line.proofs.call.block.Lts as lts
-use Rattle.line.proofs.fields.kind_letter.Reads as kind-letter-reads
 
--- src/call.rt:91:33
-kind-letter-requires : tie.Need-kind-letter-requires
-kind-letter-requires c κs = search needs
+kind : (c : tie.After-kind) → kind-letter (c .before .before .before .args .letter) ≡ some (number-of (c .kind .given .0 .0))
+kind c = sym (c .before .before .kind-letter .ensures) ∙ ap kind-said (c .kind .given .1)
 
--- src/call.rt:91:25
-enum-known-kind : tie.Need-enum-known-kind
-enum-known-kind c = search needs
-
--- src/call.rt:92:9
-enum-told : tie.Need-enum-told
-enum-told c = search needs
-
--- src/call.rt:92:9
 returns : tie.Need-returns
-returns c = ?
+unfolding block-said
+returns c = rw (← c .before .before .kind-letter .ensures, c .enum-told .given .1)
 
--- src/call.rt:95:9
 returns-2 : tie.Need-returns-2
-returns-2 c = ?
+unfolding block-said
+returns-2 c = rw (kind (c .before .before), ne-eqb _ _ (c .if1 .taken))
 
--- src/call.rt:88:1
 returns-3 : tie.Need-returns-3
-returns-3 c = ?
+unfolding block-said
+returns-3 c =
+    let f = c .before .before .before .before .before .fits in
+    rw (toZ-ofZ (f .bottom), toZ-ofZ (f .top), kind (c .before .before), eq-eqb _ _ (c .if1 .left))
 
 pub block-spec : {M : Type 1} → statement M
-block-spec =
-    tie.close (tie.spec kind-letter-requires enum-known-kind enum-told returns returns-2 returns-3)
+block-spec = tie.close (tie.spec (λ c κs. search needs) (λ c. search needs) (λ c. search needs) returns returns-2 returns-3)

@@ -1,16 +1,13 @@
-use borrow.Author.Needs.{needs}
+-- `line::call::provided` meets its contract.
+use Rattle.model.specs.Sheet.{provided}
 use Rattle.line.proofs.call.provided.Statement.{statement}
 use Rattle.line.proofs.call.provided.Tie as tie
-use Rattle.line.proofs.call.provided.Reads as reads
-use Rattle.line.proofs.call.provided.Lts as lts
 
--- src/call.rt:41:1
 returns : tie.Need-returns
-returns c = ?
+returns c = rw (c .if1 .taken)
 
--- src/call.rt:41:1
 returns-2 : tie.Need-returns-2
-returns-2 c = search needs
+returns-2 c = rw (c .if1 .left)
 
 pub provided-spec : {M : Type 1} → statement M
 provided-spec = tie.close (tie.spec returns returns-2)
