@@ -1,10 +1,13 @@
 -- What a line that was read says, in terms of the model's calls. Assumes nothing.
 use Prim.Native.Nat.{ℕ}
+use Prim.Native.Char.{code}
+use mathlib.Core.Bool.{Bool, _&&_}
+use mathlib.Core.List.{[], _∷_}
 use mathlib.Core.Option.{Option, none, some}
 use lib.Dec.{eqb}
 use lib.IntN.{ℤ, pos, negsuc}
 use Rattle.model.specs.Kinds.{number-of}
-use Rattle.model.specs.Sheet.{SheetCall, add-block, empty-draft, list-draft, choose-draft, place-draft, release-task, with-some, provided, kind-letter}
+use Rattle.model.specs.Sheet.{SheetCall, add-block, empty-draft, list-draft, choose-draft, place-draft, release-task, is, nought, with-some, provided, kind-letter}
 use Rattle.line.specs.declared.call.BlockCall.{BlockCall}
 use Rattle.line.specs.declared.call.Call.{Call}
 use Rattle.line.specs.declared.call.Call.the-variants.{Block, Clear, List, Choose, Place, Release}
@@ -32,3 +35,13 @@ answer-of Malformed = negsuc 11
 -- a block call by its fields: its kind is a letter, and its task is unused
 unfoldable pub block-said : ℕ → ℕ → ℕ → ℤ → ℤ → Option SheetCall
 block-said task column letter bottom top = with-some (kind-letter letter) (λ k. provided (eqb task 0) (add-block column k bottom top))
+
+-- the fields that calls leave unused: kind and top; all but the task; all
+abbrev pub kind-unused : ℕ → ℤ → Bool
+kind-unused kind top = is (code "-") (kind ∷ []) && nought top
+
+abbrev pub only-task : ℕ → ℕ → ℤ → ℤ → Bool
+only-task column kind bottom top = eqb column 0 && is (code "-") (kind ∷ []) && nought bottom && nought top
+
+abbrev pub none-used : ℕ → ℕ → ℕ → ℤ → ℤ → Bool
+none-used task column kind bottom top = eqb task 0 && eqb column 0 && is (code "-") (kind ∷ []) && nought bottom && nought top

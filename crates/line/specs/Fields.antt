@@ -1,5 +1,6 @@
 -- What the readers of a line's fields answer, in terms of the model's fields and numbers. Assumes nothing.
 use Prim.Native.Nat.{ℕ, suc, _+_}
+use Prim.Native.Char.{code}
 use mathlib.Core.Bool.{cond}
 use mathlib.Core.Option.{Option, none, some}
 use mathlib.Core.List.{List, [], _∷_}
@@ -25,7 +26,7 @@ use Rattle.line.specs.declared.fields.Height.the-variants as high
 -- the bytes before the first space
 unfoldable pub word : List ℕ → List ℕ
 word [] = []
-word (x ∷ l) = let rest = word l in cond (eqb x 32) [] (x ∷ rest)
+word (x ∷ l) = let rest = word l in cond (eqb x (code " ")) [] (x ∷ rest)
 
 -- where the field after the one at `at` starts: past the length, if there is none
 unfoldable pub after : List ℕ → ℕ → ℕ

@@ -2,3 +2,4 @@
 pub mod Fields
 pub mod Numbers
 pub mod Calls
+pub mod Print

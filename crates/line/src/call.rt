@@ -1,11 +1,9 @@
 // A sheet line as one of six calls.
 ghost use mathlib.Core.Path.{_≡_};
-ghost use mathlib.Core.Bool.{_&&_};
 ghost use mathlib.Core.List.{[], _∷_};
-ghost use lib.Dec.{eqb};
 ghost use lib.IntN.{ℤ, pos, negsuc};
-ghost use Rattle.model.specs.Sheet.{is, nought, provided, call-of, sheet-line};
-ghost use Rattle.line.specs.Calls.{call-said, said, block-said};
+ghost use Rattle.model.specs.Sheet.{provided, call-of, sheet-line};
+ghost use Rattle.line.specs.Calls.{call-said, said, kind-unused, only-task, none-used, block-said};
 use crate::MAX_LINE;
 use crate::fields;
 use crate::fields::Height;
@@ -49,7 +47,7 @@ fn provided(unused: bool, call: Call) -> Line
 
 // Whether kind and top are unused.
 fn no_kind(kind: u8, top: i16) -> bool
-    ensures { λ r. ⌜ r ≡ (is 45 (kind ∷ []) && nought top) ⌝ }
+    ensures { λ r. ⌜ r ≡ kind-unused kind top ⌝ }
 {
     if kind != b'-' {
         return false;
@@ -59,7 +57,7 @@ fn no_kind(kind: u8, top: i16) -> bool
 
 // Whether all fields but the task are unused.
 fn only_task(column: u8, kind: u8, bottom: i16, top: i16) -> bool
-    ensures { λ r. ⌜ r ≡ (eqb column 0 && is 45 (kind ∷ []) && nought bottom && nought top) ⌝ }
+    ensures { λ r. ⌜ r ≡ only-task column kind bottom top ⌝ }
 {
     if column != 0 {
         return false;
@@ -75,7 +73,7 @@ fn only_task(column: u8, kind: u8, bottom: i16, top: i16) -> bool
 
 // Whether all fields are unused.
 fn no_field(task: u16, column: u8, kind: u8, bottom: i16, top: i16) -> bool
-    ensures { λ r. ⌜ r ≡ (eqb task 0 && eqb column 0 && is 45 (kind ∷ []) && nought bottom && nought top) ⌝ }
+    ensures { λ r. ⌜ r ≡ none-used task column kind bottom top ⌝ }
 {
     if task != 0 {
         return false;
@@ -118,7 +116,10 @@ fn meaning(letter: u8, task: u16, column: u8, kind: u8, bottom: i16, top: i16) -
                 bottom: bottom,
             },
         ),
-        b'R' => provided(only_task(column, kind, bottom, top), Call::Release { task: task }),
+        b'R' => provided(
+            only_task(column, kind, bottom, top),
+            Call::Release { task: task },
+        ),
         _ => Line::Malformed,
     }
 }

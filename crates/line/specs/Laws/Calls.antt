@@ -69,6 +69,7 @@ natural-within most f {v} = go (natural f)
     test : (t : Bool) (n : ℕ) → leb n most ≡ t → provided t n ≡ some v → v ≤ most
     test true n e h = let q : n ≡ v = cc in omega (arith, leb-true n most e)
     test false n e h = let z : _≡_ {A = ℕ} 0 1 = cc in omega arith
+
     go : (o : Option ℕ) → with-some o (λ n. provided (leb n most) n) ≡ some v → v ≤ most
     go none h = let z : _≡_ {A = ℕ} 0 1 = cc in omega arith
     go (some n) h = test (leb n most) n refl h
