@@ -2,4 +2,5 @@
 pub mod Fields
 pub mod Numbers
 pub mod Calls
+pub mod Block
 pub mod Print
