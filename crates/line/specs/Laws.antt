@@ -3,4 +3,5 @@ pub mod Fields
 pub mod Numbers
 pub mod Calls
 pub mod Block
+pub mod Device
 pub mod Print

@@ -2,5 +2,6 @@
 pub mod Fields
 pub mod Calls
 pub mod Block
+pub mod Device
 pub mod Print
 pub mod Laws

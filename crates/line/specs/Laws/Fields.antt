@@ -125,7 +125,7 @@ word-take (x ∷ l) = go (eqb x 32) (word-take l)
     go false e = rw e
 
 module _ (s : List ℕ) (at end : ℕ) (ends : end ≡ at + length (word (drop at s))) where
-  field-part : take (end - at) (drop at s) ≡ word (drop at s)
+  pub field-part : take (end - at) (drop at s) ≡ word (drop at s)
   field-part = let e : end - at ≡ length (word (drop at s)) = omega arith in rw e (word-take (drop at s))
 
   after-is : after s at ≡ end + 1
