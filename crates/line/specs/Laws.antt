@@ -5,3 +5,4 @@ pub mod Calls
 pub mod Block
 pub mod Device
 pub mod Print
+pub mod Reading

@@ -19,15 +19,15 @@ use Rattle.line.specs.Print.{Printed}
 -- ---- digits
 
 -- 10 to the power of k
-abbrev tens : ℕ → ℕ
+abbrev pub tens : ℕ → ℕ
 tens zero = 1
 tens (suc k) = 10 * tens k
 
-step-small : (k n : ℕ) → n < 10 → digits (suc k) n ≡ (code "0" + n) ∷ []
+pub step-small : (k n : ℕ) → n < 10 → digits (suc k) n ≡ (code "0" + n) ∷ []
 unfolding digits
 step-small k n h = rw (lt-ltb n 10 h)
 
-step-last : (k n : ℕ) → 10 ≤ n → digits (suc k) n ≡ digits k (n / 10) ++ ((code "0" + n % 10) ∷ [])
+pub step-last : (k n : ℕ) → 10 ≤ n → digits (suc k) n ≡ digits k (n / 10) ++ ((code "0" + n % 10) ∷ [])
 unfolding digits
 step-last k n h = rw (le-ltb n 10 h)
 
