@@ -8,7 +8,6 @@ use lib.Dec.{eqb}
 use lib.IntN.{ℤ, pos, negsuc}
 use Rattle.model.specs.Kinds.{number-of}
 use Rattle.model.specs.Sheet.{SheetCall, add-block, empty-draft, list-draft, choose-draft, place-draft, release-task, is, nought, with-some, provided, kind-letter}
-use Rattle.line.specs.declared.call.BlockCall.{BlockCall}
 use Rattle.line.specs.declared.call.Call.{Call}
 use Rattle.line.specs.declared.call.Call.the-variants.{Block, Clear, List, Choose, Place, Release}
 use Rattle.line.specs.declared.call.Line.{Line}

@@ -1,10 +1,9 @@
 // A block call as the six bytes of a block of a task.
 ghost use mathlib.Core.Path.{_≡_};
-ghost use lib.IntN.{ℤ, pos, negsuc};
 ghost use lib.ListN.{length};
 ghost use mir.Syntax.{w16};
 ghost use mir.Val.{ofZ};
-ghost use Prim.Native.Nat.{ℕ, _+_, _≤_};
+ghost use Prim.Native.Nat.{_+_, _≤_};
 ghost use Rattle.model.specs.Limits.{block-size};
 ghost use Rattle.model.specs.Laws.Parts.{splice};
 ghost use Rattle.line.specs.Block.{word-bytes, block-bytes};

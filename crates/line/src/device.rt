@@ -1,12 +1,13 @@
 // The first three lines of a sheet: two names lines, and the line of rows and kinds between them.
 ghost use mathlib.Core.Path.{_≡_};
 ghost use lib.ListN.{length};
-ghost use Prim.Native.Nat.{ℕ, _+_, _≤_};
+ghost use Prim.Native.Nat.{_+_, _≤_};
 ghost use Rattle.model.specs.Limits.{max-line};
 ghost use Rattle.model.specs.Laws.Parts.{splice};
 ghost use Rattle.model.specs.Sheet.{first-names, second-names, kind-letters, device-line};
 ghost use Rattle.line.specs.Device.{Says, known, kind-or-zero, kinds-of, rows-of, kinds-left};
 use crate::MAX_LINE;
+use crate::MAX_ROWS;
 use crate::fields;
 use crate::fields::Natural;
 use model::KindRead;
@@ -90,7 +91,7 @@ pub fn rows_line(line: &[u8], kinds: &mut [u8]) -> Rows
     if MAX_LINE < line.len() {
         return Rows::Malformed;
     }
-    let Natural::Value(rows, at) = fields::natural_field(line, 0, 65535) else {
+    let Natural::Value(rows, at) = fields::natural_field(line, 0, MAX_ROWS) else {
         return Rows::Malformed;
     };
     if line.len() <= at {

@@ -1,8 +1,7 @@
 // The fields of a line, read one after the other. A field ends at the next space or at the end of the line.
 ghost use mathlib.Core.Path.{_≡_};
-ghost use lib.IntN.{ℤ, pos, negsuc};
 ghost use lib.ListN.{length, drop};
-ghost use Prim.Native.Nat.{ℕ, _+_, _≤_, _<_};
+ghost use Prim.Native.Nat.{_+_, _≤_, _<_};
 ghost use Rattle.model.specs.Sheet.{natural, number, kind-letter};
 ghost use Rattle.line.specs.Fields.{word, most-read, capped, capped-number, digits-of, byte-at, natural-at, height-at, kind-said};
 use model::Kind;

@@ -7,3 +7,10 @@ pub mod print; // lines of output
 
 // The most bytes of a line, without its newline.
 pub const MAX_LINE: usize = 80;
+
+// The greatest task number, number of rows and column that a field may have.
+pub const MAX_TASK: u32 = 65535;
+
+pub const MAX_ROWS: u32 = 65535;
+
+pub const MAX_COLUMN: u32 = 255;

@@ -1,10 +1,10 @@
 // Lines of output, rendered into a lent buffer. Each function answers the place after what it wrote.
 ghost use mathlib.Core.Path.{_≡_};
 ghost use mathlib.Core.Bool.{true};
-ghost use lib.IntN.{ℤ, pos, negsuc, natAbs};
+ghost use lib.IntN.{pos, natAbs};
 ghost use lib.Signed.{ltZ};
 ghost use lib.ListN.{length};
-ghost use Prim.Native.Nat.{ℕ, _+_, _≤_, _<_};
+ghost use Prim.Native.Nat.{_+_, _≤_, _<_};
 ghost use Rattle.model.specs.Sheet.{shown, output-line};
 ghost use Rattle.line.specs.Print.{Printed, spaced};
 

@@ -4,14 +4,14 @@ use mathlib.Core.Path.{_≡_, refl, sym, ap, _∙_}
 use mathlib.Core.List.{List, [], _∷_, _++_}
 use native.Mathlib.Omega.{arith}
 use native.Mathlib.Nat.{add-zero}
-use lib.ListN.{length, getD, set, length-set}
+use lib.ListN.{length, getD, set}
 use lib.IntN.{ℤ, pos, negsuc, natAbs, _+ℤ_}
 use lib.Signed.{mag}
 use mir.Syntax.{w16, w32}
 use mir.Val.{SFits, ofZ}
 use borrow.Author.Tests.{le-ltb}
 use Rattle.model.specs.Limits.{block-size}
-use Rattle.model.specs.Tasks.{Block, word, lifted, block}
+use Rattle.model.specs.Tasks.{word, lifted, block}
 use Rattle.model.specs.Kinds.{number-of}
 use Rattle.model.specs.Laws.Parts.{splice, part-splice, getD-part, set-two, splice-more}
 use Rattle.line.specs.Block.{word-bytes, block-bytes}

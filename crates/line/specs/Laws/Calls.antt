@@ -1,14 +1,13 @@
 -- A sheet line by its fields, as they are read one after the other. Assumes nothing.
 use Prim.Native.Nat.{ℕ, zero, suc, _≤_, _<_}
 use mathlib.Core.Path.{_≡_, refl, sym, ap, _∙_}
-use mathlib.Core.Bool.{Bool, true, false, cond, _&&_}
+use mathlib.Core.Bool.{Bool, true, false, _&&_}
 use mathlib.Core.Option.{Option, none, some}
 use mathlib.Core.List.{List, [], _∷_}
 use native.Mathlib.Omega.{arith}
 use lib.ListN.{length, drop, getD}
 use lib.Dec.{leb, eqb}
 use lib.IntN.{ℤ, pos, negsuc}
-use lib.Signed.{mag}
 use mir.Syntax.{Width}
 use mir.Val.{SFits, ofZ}
 use borrow.Author.Tests.{eq-eqb, ne-eqb, le-leb, lt-leb, leb-true}
@@ -17,11 +16,11 @@ use Rattle.model.specs.Limits.{max-line, max-number, max-column-field}
 use Rattle.model.specs.Sheet.{SheetCall, with-some, provided, fields, is, nought, natural, number, natural-field, height-field, kind-field, call-of, six, sheet-line}
 use Rattle.line.specs.Fields.{word, after, one-byte, natural-with, height-with, byte-at, natural-at, height-at}
 use Rattle.line.specs.Laws.Fields.{cond-same, and-right, start, field-is, fields-more, fields-less, field-there}
-use Rattle.line.specs.declared.fields.One.{One}
+use Rattle.line.specs.Calls.{said, answer-of}
+use Rattle.line.specs.declared.call.Line.{Line}
+use Rattle.line.specs.declared.call.Line.the-variants.{Does, Malformed}
 use Rattle.line.specs.declared.fields.One.the-variants as one
-use Rattle.line.specs.declared.fields.Natural.{Natural}
 use Rattle.line.specs.declared.fields.Natural.the-variants as nat
-use Rattle.line.specs.declared.fields.Height.{Height}
 use Rattle.line.specs.declared.fields.Height.the-variants as high
 
 -- `z == 0` in the code
@@ -242,3 +241,14 @@ module _ (s : List ℕ) where
   unfolding sheet-line
   line-is short letter task column kind bottom top e l =
       rw (le-leb (length s) max-line short, eq-eqb (length (fields s)) 6 (counted top e l), six-is (fields s) task column bottom top, letter, kind)
+
+-- ---- the answer
+
+-- a line that says nothing is answered by −12, and only such a line
+pub malformed-answer : (r : Line) → said r ≡ none → answer-of r ≡ negsuc 11
+malformed-answer (Does call) e = cc
+malformed-answer Malformed e = refl
+
+pub answer-malformed : (r : Line) → answer-of r ≡ negsuc 11 → said r ≡ none
+answer-malformed (Does call) e = cc
+answer-malformed Malformed e = refl

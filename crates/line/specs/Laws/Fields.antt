@@ -1,24 +1,22 @@
 -- What the readers of a line meet: the bytes of a field, digits, and the fields of a line from a place on. Assumes nothing.
 use Prim.Native.Nat.{ℕ, zero, suc, _+_, _-_, _*_, _≤_, _<_}
-use mathlib.Core.Path.{_≡_, refl, sym, ap, _∙_}
+use mathlib.Core.Path.{_≡_, refl, _∙_}
 use mathlib.Core.Logic.{_⊎_, inl, inr}
-use mathlib.Core.Bool.{Bool, true, false, not, cond, _&&_, _||_}
-use mathlib.Core.Option.{Option, none, some}
+use mathlib.Core.Bool.{Bool, true, false, cond, _&&_}
 use mathlib.Core.List.{List, [], _∷_}
 use native.Mathlib.Numerals.{add-one}
 use native.Mathlib.Omega.{arith}
 use lib.ListN.{length, take, drop, getD, drop-of-length-le, length-drop}
 use lib.Seq.{drop-cons, drop-drop}
 use lib.Dec.{leb, ltb, eqb, leb·suc-suc}
-use borrow.Author.Tests.{eq-eqb, ne-eqb, lt-ltb, le-ltb, le-leb, lt-leb, ltb-false, leb-true}
-use Rattle.runs.specs.Laws.Tests.{tests, cond-ind, lt-or-ge}
+use borrow.Author.Tests.{eq-eqb, ne-eqb, lt-ltb, le-ltb, le-leb, lt-leb}
+use Rattle.runs.specs.Laws.Tests.{lt-or-ge}
 use Rattle.model.specs.Bounded.{all-in}
 use Rattle.model.specs.Sheet.{grown, fields, digit, decimal, natural, number, provided, natural-field, height-field}
 use Rattle.line.specs.Fields.{word, after, most-read, small, capped, digits-of, one-byte, natural-with, height-with, byte-at, natural-at, height-at}
 use Rattle.line.specs.declared.fields.One.the-variants as one
 use Rattle.line.specs.declared.fields.Natural.the-variants as nat
 use Rattle.line.specs.declared.fields.Height.the-variants as high
-use Rattle.line.specs.declared.fields.Digits.{Digits}
 use Rattle.line.specs.declared.fields.Digits.the-variants as digits
 
 -- ---- tests

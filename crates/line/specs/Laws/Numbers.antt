@@ -1,6 +1,6 @@
 -- A number of any length and the number that is read, which is at most 99,999: they say the same of a field. Assumes nothing.
 use Prim.Native.Nat.{ℕ, zero, suc, _≤_, _<_}
-use mathlib.Core.Path.{_≡_, refl, sym, ap, _∙_}
+use mathlib.Core.Path.{_≡_, refl, ap}
 use mathlib.Core.Bool.{Bool, true, false, cond, _&&_}
 use mathlib.Core.Option.{Option, none, some}
 use mathlib.Core.List.{List, [], _∷_}
@@ -8,7 +8,7 @@ use native.Mathlib.Omega.{arith}
 use lib.ListN.{length, drop, getD}
 use lib.Dec.{leb}
 use lib.IntN.{ℤ, pos, negsuc, negℤ}
-use lib.Signed.{mag, ltZ, leZ}
+use lib.Signed.{ltZ, leZ}
 use borrow.Author.Tests.{eq-eqb, ne-eqb, le-leb, lt-leb, ltb-true, ltb-false, leb-true, leb-false}
 use Rattle.model.specs.Limits.{max-height-field}
 use Rattle.model.specs.Sheet.{with-some, provided, natural, negated, number, natural-field, height-field}

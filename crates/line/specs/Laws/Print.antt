@@ -1,19 +1,19 @@
 -- Printing: digits one after the other, and texts one after the other. Assumes nothing.
-use Prim.Native.Nat.{ℕ, zero, suc, _+_, _-_, _*_, _/_, _%_, _^_, _≤_, _<_}
+use Prim.Native.Nat.{ℕ, zero, suc, _+_, _-_, _*_, _/_, _%_, _≤_, _<_}
 use Prim.Native.Char.{code}
 use mathlib.Core.Path.{_≡_, refl, sym, ap, _∙_}
 use mathlib.Core.Logic.{_⊎_, inl, inr}
-use mathlib.Core.Bool.{Bool, true, false, cond}
+use mathlib.Core.Bool.{true, false}
 use mathlib.Core.List.{List, [], _∷_, _++_, append-assoc}
 use native.Mathlib.Omega.{arith}
-use lib.ListN.{length, set, length-append, length-set}
-use lib.Dec.{ltb, leb·suc-zero}
+use lib.ListN.{length, set, length-append}
+use lib.Dec.{leb·suc-zero}
 use lib.IntN.{ℤ, pos, negsuc, natAbs, _-ℤ_}
 use lib.Signed.{mag, ltZ}
 use borrow.Author.Tests.{lt-ltb, le-ltb}
-use Rattle.runs.specs.Laws.Tests.{cond-ind, lt-or-ge}
+use Rattle.runs.specs.Laws.Tests.{lt-or-ge}
 use Rattle.model.specs.Sheet.{text, digits, shown, output-line}
-use Rattle.model.specs.Laws.Parts.{splice, length-splice, set-splice, splice-more, splice-grow}
+use Rattle.model.specs.Laws.Parts.{set-splice, splice-more}
 use Rattle.line.specs.Print.{Printed}
 
 -- ---- digits

@@ -1,10 +1,9 @@
 -- Reading undoes printing: a number that is printed is read as that number. Assumes nothing.
 use Prim.Native.Nat.{ℕ, zero, suc, _+_, _-_, _*_, _/_, _%_, _≤_, _<_}
-use Prim.Native.Char.{code}
 use mathlib.Core.Path.{_≡_, refl, sym, ap, _∙_}
 use mathlib.Core.Logic.{_⊎_, inl, inr}
-use mathlib.Core.Bool.{Bool, true, false, cond, not, _&&_, _||_}
-use mathlib.Core.Option.{Option, none, some}
+use mathlib.Core.Bool.{Bool, true, false, not, _||_}
+use mathlib.Core.Option.{some}
 use mathlib.Core.List.{List, [], _∷_, _++_}
 use native.Mathlib.Omega.{arith}
 use lib.ListN.{length, getD, length-append, List·getD-append}
@@ -14,7 +13,7 @@ use borrow.Author.Tests.{eq-eqb, ne-eqb, le-leb, leb-true, eqb-true}
 use Rattle.runs.specs.Laws.Tests.{lt-or-ge}
 use Rattle.model.specs.Bounded.{all-in}
 use Rattle.model.specs.Laws.Bounded.{and-to, and-of}
-use Rattle.model.specs.Sheet.{with-some, provided, digit, decimal, natural, negated, number, digits, shown}
+use Rattle.model.specs.Sheet.{digit, decimal, natural, negated, number, digits, shown}
 use Rattle.line.specs.Laws.Print.{tens, step-small, step-last}
 
 -- a list of digits says n

@@ -1,6 +1,5 @@
 -- `line::call::only_task` meets its contract.
 use borrow.Author.Tests.{eq-eqb, ne-eqb}
-use mathlib.Core.Path.{sym}
 use Rattle.model.specs.Sheet.{is}
 use Rattle.line.specs.Laws.Calls.{nought-bits}
 use Rattle.line.proofs.call.only_task.Statement.{statement}

@@ -1,5 +1,4 @@
 -- `line::call::provided` meets its contract.
-use Rattle.model.specs.Sheet.{provided}
 use Rattle.line.proofs.call.provided.Statement.{statement}
 use Rattle.line.proofs.call.provided.Tie as tie
 

@@ -1,6 +1,6 @@
 -- `line::fields::signed` meets its contract: a number by its first byte, and the number after it.
 use borrow.Author.Needs.{needs}
-use mathlib.Core.Path.{_≡_, sym, _∙_}
+use mathlib.Core.Path.{_≡_, sym}
 use Prim.Native.Nat.{_≤_}
 use native.Mathlib.Omega.{arith}
 use mir.Syntax.{w32}
