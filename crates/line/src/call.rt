@@ -3,9 +3,9 @@ ghost use mathlib.Core.Path.{_≡_};
 ghost use mathlib.Core.List.{[], _∷_};
 ghost use Rattle.model.specs.Sheet.{provided, call-of, sheet-line};
 ghost use Rattle.line.specs.Calls.{call-said, said, kind-unused, only-task, none-used, block-said};
-use crate::MAX_COLUMN;
+use crate::MAX_COLUMN_FIELD;
 use crate::MAX_LINE;
-use crate::MAX_TASK;
+use crate::MAX_TASK_FIELD;
 use crate::fields;
 use crate::fields::Height;
 use crate::fields::Natural;
@@ -135,10 +135,10 @@ pub fn read(line: &[u8]) -> Line
     let One::Byte(letter, a) = fields::byte_field(line, 0) else {
         return Line::Malformed;
     };
-    let Natural::Value(task, b) = fields::natural_field(line, a, MAX_TASK) else {
+    let Natural::Value(task, b) = fields::natural_field(line, a, MAX_TASK_FIELD) else {
         return Line::Malformed;
     };
-    let Natural::Value(column, c) = fields::natural_field(line, b, MAX_COLUMN) else {
+    let Natural::Value(column, c) = fields::natural_field(line, b, MAX_COLUMN_FIELD) else {
         return Line::Malformed;
     };
     let One::Byte(kind, d) = fields::byte_field(line, c) else {

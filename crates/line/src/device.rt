@@ -7,7 +7,7 @@ ghost use Rattle.model.specs.Laws.Parts.{splice};
 ghost use Rattle.model.specs.Sheet.{first-names, second-names, kind-letters, device-line};
 ghost use Rattle.line.specs.Device.{Says, known, kind-or-zero, kinds-of, rows-of, kinds-left};
 use crate::MAX_LINE;
-use crate::MAX_ROWS;
+use crate::MAX_ROWS_FIELD;
 use crate::fields;
 use crate::fields::Natural;
 use model::KindRead;
@@ -91,7 +91,7 @@ pub fn rows_line(line: &[u8], kinds: &mut [u8]) -> Rows
     if MAX_LINE < line.len() {
         return Rows::Malformed;
     }
-    let Natural::Value(rows, at) = fields::natural_field(line, 0, MAX_ROWS) else {
+    let Natural::Value(rows, at) = fields::natural_field(line, 0, MAX_ROWS_FIELD) else {
         return Rows::Malformed;
     };
     if line.len() <= at {

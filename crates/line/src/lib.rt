@@ -9,8 +9,8 @@ pub mod print; // lines of output
 pub const MAX_LINE: usize = 80;
 
 // The greatest task number, number of rows and column that a field may have.
-pub const MAX_TASK: u32 = 65535;
+pub const MAX_TASK_FIELD: u32 = 65535;
 
-pub const MAX_ROWS: u32 = 65535;
+pub const MAX_ROWS_FIELD: u32 = 65535;
 
-pub const MAX_COLUMN: u32 = 255;
+pub const MAX_COLUMN_FIELD: u32 = 255;

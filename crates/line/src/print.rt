@@ -6,7 +6,7 @@ ghost use lib.Signed.{ltZ};
 ghost use lib.ListN.{length};
 ghost use Prim.Native.Nat.{_+_, _≤_, _<_};
 ghost use Rattle.model.specs.Sheet.{shown, output-line};
-ghost use Rattle.line.specs.Print.{Printed, spaced};
+ghost use Rattle.line.specs.Print.{Printed, spaced, names-line};
 
 // The decimal digits of a number: all but the last, and then the last.
 pub fn print_natural(out: &mut [u8], at: usize, value: u32) -> usize
@@ -82,4 +82,25 @@ pub fn print_line(
     let f = print_field(out, e, last);
     out[f] = b'\n';
     f + 1
+}
+
+// A text as it stands.
+fn print_text(out: &mut [u8], at: usize, text: &[u8]) -> usize
+    requires { ⌜ at + length (now text) ≤ length (now out) ⌝ }
+    ensures { λ r. ⌜ Printed (now (out .entry)) (now (out .exit)) at r (now (text .entry)) ⌝ }
+{
+    let mut i = 0;
+    while i < text.len() {
+        out[at + i] = text[i];
+        i += 1;
+    }
+    at + i
+}
+
+// The names line of the output, with its newline.
+pub fn print_names(out: &mut [u8], at: usize) -> usize
+    requires { ⌜ at + 35 ≤ length (now out) ⌝ }
+    ensures { λ r. ⌜ Printed (now (out .entry)) (now (out .exit)) at r names-line ⌝ }
+{
+    print_text(out, at, b"line answer column first step last\n")
 }

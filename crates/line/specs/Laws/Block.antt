@@ -8,7 +8,8 @@ use lib.ListN.{length, getD, set}
 use lib.IntN.{ℤ, pos, negsuc, natAbs, _+ℤ_}
 use lib.Signed.{mag}
 use mir.Syntax.{w16, w32}
-use mir.Val.{SFits, ofZ}
+use mir.Val.{SFits, toZ, ofZ}
+use mir.Facts.{toZ-ofZ}
 use borrow.Author.Tests.{le-ltb}
 use Rattle.model.specs.Limits.{block-size}
 use Rattle.model.specs.Tasks.{word, lifted, block}
@@ -65,3 +66,10 @@ module _ (r : List ℕ) (i : ℕ) (b : BlockCall) (fits : block-size * i + block
       ≡ record { column = b .column; kind = number-of (b .kind); low = lifted (ofZ w16 (b .bottom)); high = lifted (ofZ w16 (b .top)) }
   unfolding block written
   block-read = rw (first-byte, byte 1 (omega arith), word-at 2 (ofZ w16 (b .bottom)) (omega arith) refl refl, word-at 4 (ofZ w16 (b .top)) (omega arith) refl refl)
+
+  -- and its bottom and top are the values that the call has
+  pub values-read : SFits w16 (b .bottom) → SFits w16 (b .top) → let t = splice r (block-size * i) block-size (block-bytes b) in
+      (toZ w16 (word t (block-size * i + 2)) ≡ b .bottom) × (toZ w16 (word t (block-size * i + 4)) ≡ b .top)
+  unfolding written
+  values-read f g =
+      rw (word-at 2 (ofZ w16 (b .bottom)) (omega arith) refl refl, word-at 4 (ofZ w16 (b .top)) (omega arith) refl refl) (toZ-ofZ {w = w16} f, toZ-ofZ {w = w16} g)
