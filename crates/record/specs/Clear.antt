@@ -2,19 +2,19 @@
 use Prim.Native.Nat.{ℕ, suc, _+_, _*_, _/_, _%_, _≤_, _<_}
 use mathlib.Core.Path.{_≡_, refl, sym, ap, _∙_}
 use mathlib.Core.Logic.{_⊎_, inl, inr}
-use mathlib.Core.Bool.{Bool, true, false}
+use mathlib.Core.Bool.{true}
 use mathlib.Core.List.{List, [], _∷_, _++_}
 use native.Mathlib.Omega.{arith}
 use native.Mathlib.Nat.{mul-div-le}
 use lib.Dec.{ltb}
 use lib.ListN.{length, getD, set, take, drop, replicate, length-replicate, getD-replicate, take-append-drop, length-set}
 use lib.Seq.{set-getD, getD-set-other}
-use borrow.Author.Tests.{le-ltb, lt-ltb}
-use Rattle.runs.specs.Intervals.{Interval, interval, Free, Named, piece}
+use borrow.Author.Tests.{le-ltb}
+use Rattle.runs.specs.Intervals.{interval, Free, Named, piece}
 use Rattle.runs.specs.Laws.Tests.{tests, cond-ind, lt-or-ge}
 use Rattle.runs.specs.Laws.Intervals.{free-intervals}
 use Rattle.runs.specs.Laws.Streaming.{piece-some, piece-none}
-use Rattle.model.specs.Limits.{max-rows, max-columns, max-kind, words, record-size, columns-at, head-size, kinds-at, counts-at, column-size, interval-size, entry-size}
+use Rattle.model.specs.Limits.{max-rows, max-columns, max-kind, record-size, columns-at, head-size, kinds-at, counts-at, column-size, entry-size}
 use Rattle.model.specs.Columns.{Device, columns, kind, height, cells-in, top-in, top, device-ok}
 use Rattle.model.specs.Book.{free, held, intervals}
 use Rattle.model.specs.Bounded.{any-in}
@@ -24,7 +24,7 @@ use Rattle.model.specs.Laws.WriteBack.{zero-part}
 use Rattle.model.specs.Laws.Limits.{limits-to, kind-le}
 use Rattle.model.specs.Laws.Kept.{within-new}
 use Rattle.model.specs.Laws.Split.{free-of}
-use Rattle.model.specs.Laws.Parts.{changed, upto, upto-none, upto-step, upto-all, splice, splice-more, part-splice, byte-set, part-set-below, part-set-above, set-two}
+use Rattle.model.specs.Laws.Parts.{changed, upto, upto-none, upto-step, upto-all, splice, splice-more, byte-set, part-set-below, part-set-above, set-two}
 use Rattle.model.specs.Laws.Slots.{slot-out}
 use Rattle.model.specs.Laws.ColumnPart.{column-push}
 use Rattle.model.specs.Laws.Record.{Reads, reads-head, reads-column, reads-count, reads-cong, shows-image, put-column, length-column, column-part-nil, kind-out, intervals-out}

@@ -11,21 +11,21 @@ use native.Mathlib.Nat.{mul-comm, mul-le-mul-left}
 use native.Mathlib.Numerals.{add-one}
 use lib.Dec.{leb, ltb, eqb}
 use lib.ListN.{length, getD}
-use borrow.Author.Tests.{eq-eqb, ne-eqb, le-leb, lt-leb, lt-ltb, le-ltb, not-true}
-use Rattle.runs.specs.Intervals.{Interval, interval, Named, Apart, Free, subtract, Multiple, OnGrid, intervals as maximal-runs}
+use borrow.Author.Tests.{eq-eqb, ne-eqb, le-leb, lt-ltb, not-true}
+use Rattle.runs.specs.Intervals.{Interval, Named, Apart, subtract, OnGrid, intervals as maximal-runs}
 use Rattle.runs.specs.Laws.Tests.{tests, lt-or-ge}
 use Rattle.runs.specs.Laws.Intervals.{Outside, intervals-free, free-intervals, subtract-free, subtract-grid, grid-count}
 use Rattle.model.specs.Limits.{max-rows, max-columns, max-kind, max-running, max-number, max-intervals, block-size, reach, words, record-size, running-at, counts-at, column-size}
 use Rattle.model.specs.Bounded.{any-below}
 use Rattle.model.specs.Columns.{Device, columns, height, kind, cells, top}
 use Rattle.model.specs.Tasks.{block, blocks, sized, well-formed}
-use Rattle.model.specs.Book.{Running, Book, Placed, placed, covers, covered, standing, free, cell-free, fits, intervals}
-use Rattle.model.specs.Record.{part, column-at, column-part, image, record-of, device-of, book-of}
+use Rattle.model.specs.Book.{Running, Book, Placed, placed, covers, covered, free, cell-free, fits, intervals}
+use Rattle.model.specs.Record.{part, column-at, image, record-of, device-of, book-of}
 use Rattle.model.specs.Calls.{insert}
 use Rattle.model.specs.Sound.{within, sound, count-of, number-ok}
-use Rattle.model.specs.Laws.Bounded.{and-to, and-of, or-to, or-of, and3-to, same-test, is-false, clash}
+use Rattle.model.specs.Laws.Bounded.{and-to, and3-to, same-test, is-false, clash}
 use Rattle.model.specs.Laws.Columns.{height-two, top-le}
-use Rattle.model.specs.Laws.Tasks.{Sized, sized-to, Solid, solid-block}
+use Rattle.model.specs.Laws.Tasks.{sized-to, solid-block}
 use Rattle.model.specs.Laws.Fits.{fits-to, fits-below}
 use Rattle.model.specs.Laws.Limits.{Limits, limits-to}
 use Rattle.model.specs.Laws.Cells.{scaled, block-grid, intervals-cells}

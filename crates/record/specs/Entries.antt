@@ -6,10 +6,10 @@ use mathlib.Core.List.{List, [], _∷_, _++_}
 use native.Mathlib.Omega.{arith}
 use native.Mathlib.Nat.{add-zero, sub-zero, zero-sub, suc-sub-suc}
 use native.Mathlib.Decide.{decLt, ℕ-discrete}
-use lib.Dec.{ltb, eqb}
-use lib.ListN.{length, getD, set, take, drop, replicate, length-append, length-take, length-drop, length-set, length-replicate}
+use lib.Dec.{eqb}
+use lib.ListN.{length, getD, set, take, drop, replicate, length-append, length-take, length-drop, length-replicate}
 use borrow.Author.Tests.{lt-ltb, le-ltb, eq-eqb, ne-eqb}
-use Rattle.model.specs.Limits.{max-running, max-blocks, block-size, record-size, running-at, entry-size, blocks-at}
+use Rattle.model.specs.Limits.{max-running, block-size, record-size, running-at, entry-size, blocks-at}
 use Rattle.model.specs.Bounded.{any-in}
 use Rattle.model.specs.Columns.{Device}
 use Rattle.model.specs.Tasks.{word, blocks, sized}
@@ -17,7 +17,7 @@ use Rattle.model.specs.Book.{Running, Book}
 use Rattle.model.specs.Calls.{insert, without, runs-in}
 use Rattle.model.specs.Record.{bytes16, padded, part, entry-bytes, entry-at, entry-part, head-bytes, running-of, device-of, book-of}
 use Rattle.model.specs.Laws.Bounded.{any-in-none, any-in-of}
-use Rattle.model.specs.Sound.{sound}
+use Rattle.model.specs.Sound.{sound, block-count}
 use Rattle.model.specs.Laws.Limits.{Rising, rising-above, limits-to}
 use Rattle.model.specs.Laws.Tasks.{sized-to}
 use Rattle.model.specs.Laws.Parts.{changed, changed-same, changed-other, splice, splice-more, set-splice, length-splice, length-part, getD-list}
@@ -27,8 +27,19 @@ use Rattle.model.specs.Laws.ReadBack.{getD-in}
 use Rattle.model.specs.Laws.Entries.{place, entry-insert, entry-remove, reads-book, length-insert, without-none}
 use Rattle.model.specs.Laws.ColumnPart.{word-part}
 use Rattle.model.specs.Laws.Sound.{running-said, sound-within}
+use Rattle.record.specs.declared.entries.Entry.{Entry}
 use Rattle.record.specs.declared.entries.Found.{Found}
 use Rattle.record.specs.declared.entries.Found.the-variants.{At, Nowhere}
+
+-- ---- read
+
+-- what is read of entry j of r, with where its blocks begin and end
+pub record Says (r : List ℕ) (j : ℕ) (e : Entry) : Type 0 where
+  pub column : e .column ≡ getD r (entry-at j + 2) 0
+  pub bottom : e .bottom ≡ word r (entry-at j + 4)
+  pub count : e .count ≡ block-count r j
+  pub from : e .from ≡ entry-at j + blocks-at
+  pub to : e .to ≡ entry-at j + blocks-at + block-size * block-count r j
 
 -- ---- found by number
 

@@ -3,6 +3,7 @@ pub mod Device
 pub mod Clear
 pub mod Entries
 pub mod Enter
+pub mod Leave
 pub mod Fits
 pub mod FitsLaws
 pub mod Rebuild

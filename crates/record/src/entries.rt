@@ -7,6 +7,7 @@ use model::RUNNING_AT;
 use words::copy;
 use words::get16;
 use words::put16;
+use words::wide;
 use words::wipe;
 ghost use mathlib.Core.Path.{_≡_};
 ghost use mathlib.Core.Logic.{_≢_};
@@ -20,7 +21,7 @@ ghost use Rattle.model.specs.Sound.{sound};
 ghost use Rattle.model.specs.Laws.Parts.{splice};
 ghost use Rattle.model.specs.Laws.Slots.{raised, lowered};
 ghost use Rattle.model.specs.Laws.Entries.{place};
-ghost use Rattle.record.specs.Entries.{Finds, Moved, Entered, Removed};
+ghost use Rattle.record.specs.Entries.{Finds, Says, Moved, Entered, Removed};
 
 // Where an entry's fields stand in its bytes.
 const COLUMN_AT: usize = 2;
@@ -33,6 +34,15 @@ const BOTTOM_AT: usize = 4;
 pub enum Found {
     At(usize),
     Nowhere,
+}
+
+// A running entry: its position, how many blocks it has, and where they stand in the record.
+pub struct Entry {
+    pub column: u32,
+    pub bottom: u32,
+    pub count: usize,
+    pub from: usize,
+    pub to: usize,
 }
 
 // The task number of entry j.
@@ -49,6 +59,22 @@ fn running(record: &[u8]) -> usize
     ensures { λ r. ⌜ r ≡ getD (now («record» .entry)) running-at 0 ⌝ }
 {
     record[RUNNING_AT] as usize
+}
+
+// Entry j, with its blocks left where they stand: from its seventh byte on.
+pub fn read_entry(record: &[u8], j: usize) -> Entry
+    requires { ⌜ (length (now «record») ≡ record-size) × (j < max-running) ⌝ }
+    ensures { λ r. ⌜ Says (now («record» .entry)) j r ⌝ }
+{
+    let at = ENTRIES_AT + ENTRY_SIZE * j;
+    let count = wide(record[at + COUNT_AT]) as usize;
+    Entry {
+        column: wide(record[at + COLUMN_AT]),
+        bottom: get16(record, at + BOTTOM_AT),
+        count: count,
+        from: at + BLOCKS_AT,
+        to: at + BLOCKS_AT + BLOCK_SIZE * count,
+    }
 }
 
 // Finds the entry of a number.

@@ -4,7 +4,7 @@ use mathlib.Core.Path.{_≡_, refl, sym, _∙_}
 use native.Mathlib.Omega.{arith}
 use native.Mathlib.Numerals.{add-one}
 use borrow.Author.Needs.{needs}
-use lib.ListN.{length, length-set}
+use lib.ListN.{length}
 use Rattle.model.specs.Columns.{columns, kind}
 use Rattle.record.specs.Clear.{Opened, opened-none, opened-closed, opened-more, opened-all, bounds}
 use Rattle.record.proofs.clear.clear.Statement.{statement}

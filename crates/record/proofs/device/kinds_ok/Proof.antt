@@ -3,7 +3,6 @@ use Prim.Native.Nat.{_≤_, _-_}
 use mathlib.Core.Path.{_≡_}
 use native.Mathlib.Omega.{arith}
 use borrow.Author.Count.{below-none, below-more}
-use borrow.Author.Needs.{needs}
 use lib.ListN.{length}
 use Rattle.record.specs.Device.{Kinds, kinds-all, kinds-bad}
 use Rattle.record.proofs.device.kinds_ok.Statement.{statement}

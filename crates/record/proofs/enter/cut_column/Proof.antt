@@ -1,9 +1,8 @@
 -- `record::enter::cut_column`: the part is lent out of the record's middle. Assumes nothing.
-use Prim.Native.Nat.{_+_, _*_, _-_, _≤_}
-use mathlib.Core.Path.{_≡_, ap, _∙_}
+use Prim.Native.Nat.{_+_, _-_}
+use mathlib.Core.Path.{_≡_}
 use native.Mathlib.Omega.{arith}
 use borrow.Author.Needs.{needs}
-use Rattle.model.specs.Limits.{max-intervals}
 use Rattle.model.specs.Record.{part, column-at}
 use Rattle.model.specs.Laws.Parts.{splice}
 use Rattle.model.specs.Laws.Record.{put-column}

@@ -1,8 +1,7 @@
 -- `record::enter::take_blocks`: the first i blocks are taken (`taken`). Assumes nothing.
-use Prim.Native.Nat.{_+_, _-_, _≤_}
+use Prim.Native.Nat.{_-_, _≤_}
 use mathlib.Core.Path.{_≡_, sym, ap, _∙_}
 use native.Mathlib.Omega.{arith}
-use borrow.Author.Needs.{needs}
 use lib.ListN.{length}
 use Rattle.model.specs.Tasks.{blocks}
 use Rattle.model.specs.Book.{placed}

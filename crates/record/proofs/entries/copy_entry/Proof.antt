@@ -1,9 +1,9 @@
 -- `record::entries::copy_entry`: the bytes so far are copied (`splice-copy`). Assumes nothing.
-use Prim.Native.Nat.{_+_, _*_, _-_, _≤_}
+use Prim.Native.Nat.{_-_, _≤_}
 use mathlib.Core.Path.{_≡_, sym}
 use native.Mathlib.Omega.{arith}
 use borrow.Author.Needs.{needs}
-use lib.ListN.{length, length-set}
+use lib.ListN.{length}
 use Rattle.model.specs.Limits.{record-size, entry-size}
 use Rattle.model.specs.Record.{part, entry-at}
 use Rattle.model.specs.Laws.Parts.{splice, splice-none, splice-copy}

@@ -3,9 +3,6 @@ use Prim.Native.Nat.{ℕ, _-_, _≤_, _<_}
 use mathlib.Core.Path.{_≡_, sym, _∙_}
 use native.Mathlib.Omega.{arith}
 use borrow.Author.Count.{below-none, below-more}
-use borrow.Author.Needs.{needs}
-use lib.ListN.{getD}
-use Rattle.model.specs.Limits.{running-at}
 use Rattle.model.specs.Tasks.{word}
 use Rattle.model.specs.Record.{entry-at}
 use Rattle.model.specs.Laws.Clauses.{clauses-to}

@@ -1,11 +1,10 @@
 -- `record::entries::insert_entry`: later entries moved, the entry written, the count raised (`entered-by`). Assumes nothing.
-use Prim.Native.Nat.{_+_, _*_, _-_}
-use mathlib.Core.Path.{_≡_, refl, ap, _∙_}
+use Prim.Native.Nat.{_+_, _-_}
+use mathlib.Core.Path.{_≡_, refl, _∙_}
 use native.Mathlib.Omega.{arith}
 use borrow.Author.Needs.{needs}
 use borrow.Rule.Slice.PartMut.{mid-len}
-use lib.ListN.{length, getD, length-set}
-use Rattle.model.specs.Limits.{entry-size, running-at}
+use lib.ListN.{length-set}
 use Rattle.model.specs.Record.{entry-at}
 use Rattle.model.specs.Laws.Parts.{splice}
 use Rattle.record.specs.Entries.{entered-by}

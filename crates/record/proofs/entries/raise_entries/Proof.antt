@@ -1,5 +1,5 @@
 -- `record::entries::raise_entries`: the entries above j are moved (`raised-more`). Assumes nothing.
-use Prim.Native.Nat.{_-_, _≤_}
+use Prim.Native.Nat.{_≤_}
 use mathlib.Core.Path.{_≡_}
 use native.Mathlib.Omega.{arith}
 use borrow.Author.Needs.{needs}

@@ -1,11 +1,11 @@
 -- `record::entries::remove_entry`: later entries moved, the last wiped, the count lowered (`removed-by`). Assumes nothing.
-use Prim.Native.Nat.{_+_, _*_, _-_}
-use mathlib.Core.Path.{_≡_, refl, ap, _∙_}
+use Prim.Native.Nat.{_+_, _-_}
+use mathlib.Core.Path.{_≡_, _∙_}
 use native.Mathlib.Omega.{arith}
 use borrow.Author.Needs.{needs}
 use borrow.Rule.Slice.PartMut.{mid-len}
-use lib.ListN.{length, getD, take, drop, length-set}
-use Rattle.model.specs.Limits.{entry-size, running-at}
+use lib.ListN.{getD, take, drop, length-set}
+use Rattle.model.specs.Limits.{running-at}
 use Rattle.model.specs.Record.{entry-at}
 use Rattle.model.specs.Laws.Parts.{splice}
 use Rattle.record.specs.Entries.{removed-by}

@@ -1,10 +1,9 @@
 -- `record::entries::write_entry`: the fields and the blocks, over zeros (`entry-written`). Assumes nothing.
-use Prim.Native.Nat.{_+_, _-_, _≤_}
-use mathlib.Core.Path.{_≡_, refl, ap, _∙_}
+use Prim.Native.Nat.{_+_, _-_}
+use mathlib.Core.Path.{_≡_, _∙_}
 use native.Mathlib.Omega.{arith}
 use borrow.Author.Needs.{needs}
 use lib.ListN.{length, length-set}
-use Rattle.model.specs.Limits.{entry-size}
 use Rattle.model.specs.Tasks.{blocks}
 use Rattle.model.specs.Laws.Parts.{splice}
 use Rattle.model.specs.Laws.Tasks.{sized-to}
