@@ -2,7 +2,6 @@
 // The model's definitions are those of model/specs/Tasks.antt; specs/ here ties the code's blocks to the model's.
 use model::Kind;
 use model::KindRead;
-
 ghost use mathlib.Core.Path.{_≡_};
 ghost use Prim.Native.Nat.{_+_, _*_, _≤_, _<_};
 ghost use lib.ListN.{length, getD};
