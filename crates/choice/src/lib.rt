@@ -8,13 +8,13 @@ ghost use lib.Dec.{ltb};
 ghost use Rattle.runs.specs.Intervals.{interval, Holds};
 ghost use Rattle.model.specs.Limits.{max-columns, words};
 ghost use Rattle.model.specs.Columns.{columns, half-rows};
-ghost use Rattle.model.specs.Tasks.{blocks, step};
+ghost use Rattle.model.specs.Tasks.{blocks, step as step-of};
 ghost use Rattle.model.specs.Book.{placed, fits, intervals};
 ghost use Rattle.model.specs.Choice.{holder, judge};
 ghost use Rattle.model.specs.Record.{device-of, book-of};
 ghost use Rattle.model.specs.Sound.{sound};
 ghost use Rattle.model.specs.Laws.Homes.{bit};
-ghost use Rattle.choice.specs.Choosing.{Asked, Seated, piece-below, pieces-of, max-pieces, max-stretch, Scored, Small, better-of, Rises, Climbed, FitsRange, Chooses};
+ghost use Rattle.choice.specs.Choosing.{Asked, Seated, piece-below, pieces-of, max-pieces, max-stretch, Scored, Small, better-of, Rises, Climbed, FitsRange, ranges-in, Ranged, Chooses};
 use column::Held;
 use column::Interval;
 use runs::Range;
@@ -202,6 +202,25 @@ fn climb_range(record: &[u8], task: &[u8], column: u32, range: Range, best: Best
         let s = score_at(record, task, column, y);
         best = consider(best, column, y, s.pieces, s.stretch);
         y += rise(s.room, range.step);
+    }
+    best
+}
+
+// The better of the best so far and the bottoms of all ranges of a column, whose firsts and lasts are lent.
+fn climb_ranges(record: &[u8], task: &[u8], column: u32, step: u32, firsts: &[u32], lasts: &[u32], best: Best) -> Best
+    requires { ⌜ Asked (now «record») (now task) × (step ≡ step-of (now task)) × Ranged (ranges-in (device-of (now «record»)) (book-of (now «record»)) (now task) column) (now firsts) (now lasts) × Small best ⌝ }
+    ensures { λ r. ⌜ Climbed (judge (device-of (now («record» .entry))) (book-of (now («record» .entry))) (now (task .entry))) column 0 (half-rows (device-of (now («record» .entry)))) best r ⌝ }
+{
+    let mut best = best;
+    let mut i: usize = 0;
+    while i < firsts.len() {
+        let range = Range {
+            first: firsts[i],
+            last: lasts[i],
+            step,
+        };
+        best = climb_range(record, task, column, range, best);
+        i += 1;
     }
     best
 }
