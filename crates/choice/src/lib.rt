@@ -156,7 +156,8 @@ fn consider(best: Best, column: u32, bottom: u32, pieces: u32, stretch: u32) -> 
         bottom: z,
         pieces: n,
         stretch: s,
-    } = best else {
+    } = best
+    else {
         return Best::At {
             column,
             bottom,
@@ -207,7 +208,15 @@ fn climb_range(record: &[u8], task: &[u8], column: u32, range: Range, best: Best
 }
 
 // The better of the best so far and the bottoms of all ranges of a column, whose firsts and lasts are lent.
-fn climb_ranges(record: &[u8], task: &[u8], column: u32, step: u32, firsts: &[u32], lasts: &[u32], best: Best) -> Best
+fn climb_ranges(
+    record: &[u8],
+    task: &[u8],
+    column: u32,
+    step: u32,
+    firsts: &[u32],
+    lasts: &[u32],
+    best: Best,
+) -> Best
     requires { ⌜ Asked (now «record») (now task) × (step ≡ step-of (now task)) × Ranged (ranges-in (device-of (now «record»)) (book-of (now «record»)) (now task) column) (now firsts) (now lasts) × Small best ⌝ }
     ensures { λ r. ⌜ Climbed (judge (device-of (now («record» .entry))) (book-of (now («record» .entry))) (now (task .entry))) column 0 (half-rows (device-of (now («record» .entry)))) best r ⌝ }
 {
