@@ -14,7 +14,6 @@ use Rattle.model.specs.Columns.{Device, half-rows}
 use Rattle.model.specs.Tasks.{sized, well-formed, step}
 use Rattle.model.specs.Book.{Book, Placed, placed, fits, intervals}
 use Rattle.model.specs.Choice.{home, Judge, judge, Found, nothing, at, climb, chosen}
-use Rattle.model.specs.Record.{device-of, book-of}
 use Rattle.model.specs.Sound.{sound}
 use Rattle.model.specs.Calls.{no-position}
 use Rattle.model.specs.Laws.Homes.{bit}
@@ -116,7 +115,7 @@ abbrev pub ranges-in : Device → Book → List ℕ → ℕ → List Run
 ranges-in d b t p = runs (step t) (fits d b t p) (half-rows d)
 
 -- the runs L, as two lists of their firsts and of their lasts
-pub record Ranged (L : List Run) (firsts lasts : List ℕ) : Type 0 where
+pub record RangesAre (L : List Run) (firsts lasts : List ℕ) : Type 0 where
   pub firsts-length : length firsts ≡ length L
   pub lasts-length : length lasts ≡ length L
   pub entries : (i : ℕ) (e : Run) → i < length L → run (getD firsts i 0) (getD lasts i 0) ≡ getD L i e

@@ -14,7 +14,8 @@ ghost use Rattle.model.specs.Choice.{holder, judge};
 ghost use Rattle.model.specs.Record.{device-of, book-of};
 ghost use Rattle.model.specs.Sound.{sound};
 ghost use Rattle.model.specs.Laws.Homes.{bit};
-ghost use Rattle.choice.specs.Choosing.{Asked, Seated, piece-below, pieces-of, max-pieces, max-stretch, Scored, Small, better-of, Rises, Climbed, FitsRange, ranges-in, Ranged, Chooses};
+ghost use Rattle.listing.specs.Arrays.{Room};
+ghost use Rattle.choice.specs.Choosing.{Asked, Seated, piece-below, pieces-of, max-pieces, max-stretch, Scored, Small, better-of, Rises, Climbed, FitsRange, ranges-in, RangesAre, Chooses};
 use column::Held;
 use column::Interval;
 use runs::Range;
@@ -217,7 +218,7 @@ fn climb_ranges(
     lasts: &[u32],
     best: Best,
 ) -> Best
-    requires { ⌜ Asked (now «record») (now task) × (step ≡ step-of (now task)) × Ranged (ranges-in (device-of (now «record»)) (book-of (now «record»)) (now task) column) (now firsts) (now lasts) × Small best ⌝ }
+    requires { ⌜ Asked (now «record») (now task) × (step ≡ step-of (now task)) × RangesAre (ranges-in (device-of (now «record»)) (book-of (now «record»)) (now task) column) (now firsts) (now lasts) × Small best ⌝ }
     ensures { λ r. ⌜ Climbed (judge (device-of (now («record» .entry))) (book-of (now («record» .entry))) (now (task .entry))) column 0 (half-rows (device-of (now («record» .entry)))) best r ⌝ }
 {
     let mut best = best;
@@ -230,6 +231,49 @@ fn climb_ranges(
         };
         best = climb_range(record, task, column, range, best);
         i += 1;
+    }
+    best
+}
+
+// The better of the best so far and all positions of a column. The two slices have room for its ranges.
+fn climb_column(
+    record: &[u8],
+    task: &[u8],
+    column: u32,
+    step: u32,
+    firsts: &mut [u32],
+    lasts: &mut [u32],
+    best: Best,
+) -> Best
+    requires { ⌜ Asked (now «record») (now task) × (column < max-columns) × (step ≡ step-of (now task)) × Room (now firsts) (now lasts) × Small best ⌝ }
+    ensures { λ r. ⌜ Climbed (judge (device-of (now («record» .entry))) (book-of (now («record» .entry))) (now (task .entry))) column 0 (half-rows (device-of (now («record» .entry)))) best r ⌝ }
+{
+    let count = listing::column_ranges(record, task, column as usize, firsts, lasts);
+    climb_ranges(
+        record,
+        task,
+        column,
+        step,
+        &firsts[..count],
+        &lasts[..count],
+        best,
+    )
+}
+
+// The best position of a task on all columns, or nothing where no position fits.
+pub fn best_position(record: &[u8], task: &[u8]) -> Best
+    requires { ⌜ Asked (now «record») (now task) ⌝ }
+    ensures { λ r. ⌜ Chooses (device-of (now («record» .entry))) (book-of (now («record» .entry))) (now (task .entry)) r ⌝ }
+{
+    let step = task::step(task);
+    let last = words::wide(record[model::COLUMNS_AT]) - 1;
+    let mut firsts = [0u32; model::MAX_INTERVALS];
+    let mut lasts = [0u32; model::MAX_INTERVALS];
+    let mut best = Best::Nothing;
+    let mut column: u32 = 0;
+    while column <= last {
+        best = climb_column(record, task, column, step, &mut firsts, &mut lasts, best);
+        column += 1;
     }
     best
 }

@@ -6,11 +6,6 @@ use Rattle.model.specs.Laws.Tasks.{sized-to}
 use Rattle.choice.specs.Laws.Climbs.{range-step, rise-pos, bottom-small, Climbing, climbing-start, climbing-next, climbing-done}
 use Rattle.choice.proofs.climb_range.Statement.{statement}
 use Rattle.choice.proofs.climb_range.Tie as tie
-use Rattle.choice.proofs.climb_range.Reads as reads
-use Rattle.choice.proofs.climb_range.Lts as lts
-use Rattle.choice.proofs.consider.Reads as consider-reads
-use Rattle.choice.proofs.rise.Reads as rise-reads
-use Rattle.choice.proofs.score_at.Reads as score-at-reads
 
 abbrev Inv-loop : tie.InvT-loop
 Inv-loop «record» task column range best₀ y₀ best y = Climbing (device-of «record») (book-of «record») task column range best₀ y best

@@ -7,9 +7,6 @@ use Rattle.model.specs.Laws.Tasks.{sized-to}
 use Rattle.choice.specs.Laws.Columns.{Passed, passed-none, range-fits, passed-next, passed-all}
 use Rattle.choice.proofs.climb_ranges.Statement.{statement}
 use Rattle.choice.proofs.climb_ranges.Tie as tie
-use Rattle.choice.proofs.climb_ranges.Reads as reads
-use Rattle.choice.proofs.climb_ranges.Lts as lts
-use Rattle.choice.proofs.climb_range.Reads as climb-range-reads
 
 abbrev Inv-loop : tie.InvT-loop
 Inv-loop «record» task column step firsts lasts best₀ i₀ best i = Passed (device-of «record») (book-of «record») task column i best₀ best

@@ -4,8 +4,6 @@ use Rattle.choice.specs.Laws.Climbs.{better-first, better-new, better-ol
 use borrow.Author.Needs.{needs}
 use Rattle.choice.proofs.consider.Statement.{statement}
 use Rattle.choice.proofs.consider.Tie as tie
-use Rattle.choice.proofs.consider.Reads as reads
-use Rattle.choice.proofs.consider.Lts as lts
 
 enum-known-best : tie.Need-enum-known-best
 enum-known-best c = search needs

@@ -5,10 +5,6 @@ use Rattle.choice.specs.Laws.Seats.{part-lent, home-is, home-missing}
 use borrow.Author.Needs.{needs}
 use Rattle.choice.proofs.home.Statement.{statement}
 use Rattle.choice.proofs.home.Tie as tie
-use Rattle.choice.proofs.home.Reads as reads
-use Rattle.choice.proofs.home.Lts as lts
-use Rattle.column.proofs.holder.Reads as holder-reads
-use Rattle.words.proofs.wide.Reads as wide-reads
 
 mul-start : tie.Need-mul-start
 mul-start c = search needs

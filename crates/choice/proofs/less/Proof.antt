@@ -3,8 +3,6 @@ use native.Mathlib.Omega.{arith}
 use borrow.Author.Tests.{lt-ltb, le-ltb}
 use Rattle.choice.proofs.less.Statement.{statement}
 use Rattle.choice.proofs.less.Tie as tie
-use Rattle.choice.proofs.less.Reads as reads
-use Rattle.choice.proofs.less.Lts as lts
 
 returns : tie.Need-returns
 returns c = (simp (lt-ltb _ _ (c .if1 .taken)), omega arith)

@@ -5,9 +5,6 @@ use borrow.Author.Tests.{eq-eqb, ne-eqb}
 use borrow.Author.Needs.{needs}
 use Rattle.choice.proofs.piece_below.Statement.{statement}
 use Rattle.choice.proofs.piece_below.Tie as tie
-use Rattle.choice.proofs.piece_below.Reads as reads
-use Rattle.choice.proofs.piece_below.Lts as lts
-use Rattle.choice.proofs.less.Reads as less-reads
 
 less-requires : tie.Need-less-requires
 less-requires c κs = search needs

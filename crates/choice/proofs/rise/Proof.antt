@@ -6,8 +6,6 @@ use Rattle.choice.specs.Laws.Climbs.{rise-none, rise-some}
 use borrow.Author.Needs.{needs}
 use Rattle.choice.proofs.rise.Statement.{statement}
 use Rattle.choice.proofs.rise.Tie as tie
-use Rattle.choice.proofs.rise.Reads as reads
-use Rattle.choice.proofs.rise.Lts as lts
 
 returns : tie.Need-returns
 returns c = rise-none _ _

@@ -9,11 +9,6 @@ use Rattle.model.specs.Laws.Tasks.{sized-to}
 use Rattle.choice.specs.Laws.Scores.{Scoring, scoring-none, scoring-next, scored}
 use Rattle.choice.proofs.score_at.Statement.{statement}
 use Rattle.choice.proofs.score_at.Tie as tie
-use Rattle.choice.proofs.score_at.Reads as reads
-use Rattle.choice.proofs.score_at.Lts as lts
-use Rattle.choice.proofs.pieces_of.Reads as pieces-of-reads
-use Rattle.choice.proofs.seat_at.Reads as seat-at-reads
-use Rattle.words.proofs.lower.Reads as lower-reads
 
 abbrev Inv-loop : tie.InvT-loop
 Inv-loop «record» task column bottom count pieces₀ stretch₀ room₀ before₀ k₀ pieces stretch room before k = Scoring (placed task column bottom) (intervals (device-of «record») (book-of «record»)) k pieces stretch room before

@@ -6,10 +6,6 @@ use Rattle.choice.specs.Laws.Seats.{stood, seated}
 use borrow.Author.Needs.{needs}
 use Rattle.choice.proofs.seat_at.Statement.{statement}
 use Rattle.choice.proofs.seat_at.Tie as tie
-use Rattle.choice.proofs.seat_at.Reads as reads
-use Rattle.choice.proofs.seat_at.Lts as lts
-use Rattle.choice.proofs.home.Reads as home-reads
-use Rattle.task.proofs.block_at.Reads as block-at-reads
 
 block-at-requires : tie.Need-block-at-requires
 block-at-requires c κs = let p = c .before .before .pre in block-ready _ _ (p .0 .well-formed) (p .2)

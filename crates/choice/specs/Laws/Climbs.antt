@@ -1,10 +1,10 @@
 -- The way up a range: one position considered, the bottoms passed over, and the end. Assumes nothing.
-use Prim.Native.Nat.{ℕ, zero, suc, _+_, _-_, _*_, _/_, _≤_, _<_}
-use mathlib.Core.Path.{_≡_, refl, sym, ap, _∙_}
+use Prim.Native.Nat.{ℕ, suc, _+_, _-_, _*_, _/_, _≤_, _<_}
+use mathlib.Core.Path.{_≡_, refl, ap}
 use mathlib.Core.Logic.{_⊎_, inl, inr}
 use mathlib.Core.Bool.{Bool, true, false, not, cond}
 use mathlib.Core.List.{List}
-use native.Mathlib.Nat.{mul-le-mul, mul-le-mul-right, lt-of-mul-lt-mul-right, div-add-mod', mul-div-le}
+use native.Mathlib.Nat.{mul-le-mul, mul-le-mul-right, lt-of-mul-lt-mul-right, mul-div-le}
 use native.Mathlib.Omega.{arith}
 use lib.Dec.{ltb, eqb}
 use borrow.Author.Tests.{lt-ltb, le-ltb}
@@ -16,7 +16,7 @@ use Rattle.model.specs.Bounded.{any-below}
 use Rattle.model.specs.Columns.{Device, kind-C}
 use Rattle.model.specs.Tasks.{blocks, block, well-formed, step}
 use Rattle.model.specs.Book.{Book, placed, fits, intervals}
-use Rattle.model.specs.Choice.{Judge, judge, Found, nothing, at, better, see, climb}
+use Rattle.model.specs.Choice.{Judge, judge, Found, at, better, see, climb}
 use Rattle.model.specs.Record.{device-of, book-of}
 use Rattle.model.specs.Laws.Bounded.{clash, is-false}
 use Rattle.model.specs.Laws.Tasks.{sized-to}

@@ -1,25 +1,22 @@
 -- The score of a position, block by block. Assumes nothing.
 use Prim.Native.Nat.{ℕ, zero, suc, _+_, _-_, _*_, _≤_, _<_, min}
 use mathlib.Core.Path.{_≡_, refl, sym, ap, _∙_}
-use mathlib.Core.Bool.{Bool, true, not, _&&_}
+use mathlib.Core.Bool.{true}
 use mathlib.Core.List.{List}
 use native.Mathlib.Omega.{arith}
-use lib.Dec.{ltb, eqb}
 use borrow.Author.Tests.{ne-eqb}
 use Rattle.runs.specs.Intervals.{Interval, interval}
 use Rattle.model.specs.Limits.{max-rows, max-columns, max-blocks, words}
 use Rattle.model.specs.Bounded.{sum-below}
-use Rattle.model.specs.Columns.{Device, columns}
+use Rattle.model.specs.Columns.{Device}
 use Rattle.model.specs.Tasks.{blocks, well-formed}
 use Rattle.model.specs.Book.{Book, Placed, placed, fits, intervals}
 use Rattle.model.specs.Choice.{home, stretch, judge}
 use Rattle.model.specs.Laws.Bounded.{last-or}
-use Rattle.model.specs.Laws.Homes.{bit, joined, adds, adds-is, adds-small}
-use Rattle.model.specs.Laws.Raised.{Room}
+use Rattle.model.specs.Laws.Homes.{joined, adds, adds-is, adds-small}
 use Rattle.model.specs.Laws.Ends.{n-adds}
 use Rattle.choice.specs.Choosing.{Seated, same-home, pieces-of, Scored}
 use Rattle.choice.specs.declared.Seat.{Seat}
-use Rattle.choice.specs.declared.Score.{Score}
 
 -- what is known of the block before block k; before block 0 the column is none of the device's
 abbrev Before : Placed → (ℕ → List Interval) → ℕ → Seat → Type 0

@@ -7,17 +7,16 @@ use native.Mathlib.Omega.{arith}
 use native.Mathlib.Nat.{add-assoc}
 use lib.ListN.{length, getD, take, drop}
 use Rattle.runs.specs.Intervals.{Interval, interval, Holds}
-use Rattle.model.specs.Limits.{max-rows, max-columns, reach, record-size, column-size, interval-size}
-use Rattle.model.specs.Columns.{Device, columns, half-rows, top}
+use Rattle.model.specs.Limits.{max-rows, max-columns, reach, column-size, interval-size}
+use Rattle.model.specs.Columns.{Device, columns, top}
 use Rattle.model.specs.Tasks.{word, blocks, block, well-formed}
 use Rattle.model.specs.Book.{Book, placed, fits, intervals}
 use Rattle.model.specs.Choice.{holder, home}
 use Rattle.model.specs.Record.{part, column-at, device-of, book-of, listed-intervals}
-use Rattle.model.specs.Sound.{within, count-of, sound}
-use Rattle.model.specs.Laws.Bounded.{In}
+use Rattle.model.specs.Sound.{count-of, sound}
 use Rattle.model.specs.Laws.Columns.{top-le}
-use Rattle.model.specs.Laws.Tasks.{solid-block, full-block}
-use Rattle.model.specs.Laws.Fits.{Fitting, fits-to}
+use Rattle.model.specs.Laws.Tasks.{full-block}
+use Rattle.model.specs.Laws.Fits.{fits-to}
 use Rattle.model.specs.Laws.Limits.{Limits, limits-to}
 use Rattle.model.specs.Laws.Cells.{interval-ends}
 use Rattle.model.specs.Laws.Parts.{length-part, getD-list}
@@ -25,7 +24,7 @@ use Rattle.model.specs.Laws.ColumnPart.{word-part}
 use Rattle.model.specs.Laws.Clauses.{clauses-to}
 use Rattle.model.specs.Laws.WriteBack.{count-listed}
 use Rattle.model.specs.Laws.Sound.{sound-within, listed-said}
-use Rattle.model.specs.Laws.Homes.{Holder, found}
+use Rattle.model.specs.Laws.Homes.{found}
 use Rattle.model.specs.Laws.Ends.{column-free, fits-held}
 use Rattle.column.specs.Part.{interval-at, listed-from, listed-in, Part, holding}
 use Rattle.column.specs.Laws.{holding-holder}
@@ -35,7 +34,6 @@ use Rattle.column.specs.declared.Held.the-variants.{In as Inside, Nowhere}
 use Rattle.task.specs.declared.Block.{Block}
 use Rattle.task.specs.Blocks.{Same}
 use Rattle.choice.specs.Choosing.{Asked, Seated}
-use Rattle.choice.specs.declared.Seat.{Seat}
 
 -- ---- the intervals that a column's part lists
 
