@@ -1,0 +1,90 @@
+-- `task::read_block`: each field of the block is the model's, and the kind is read by `kind-known` and `kind-unknown`. Assumes nothing.
+use borrow.Author.Needs.{needs}
+use mathlib.Core.Path.{ap, _∙_}
+use Rattle.model.specs.Tasks.{lifted, block}
+use Rattle.task.specs.Laws.{kind-known, kind-unknown}
+use Rattle.task.proofs.read_block.Statement.{statement}
+use Rattle.task.proofs.read_block.Tie as tie
+use Rattle.task.proofs.read_block.Reads as reads
+use Rattle.task.proofs.read_block.Lts as lts
+use Rattle.model.proofs.Kind.of_byte.Reads as of-byte-reads
+use Rattle.task.proofs.lift.Reads as lift-reads
+use Rattle.task.proofs.wide.Reads as wide-reads
+use Rattle.task.proofs.word_at.Reads as word-at-reads
+
+mul-at : tie.Need-mul-at
+mul-at c = search needs
+
+add-of-byte : tie.Need-add-of-byte
+add-of-byte c = search needs
+
+shared-slice-read-of-byte : tie.Need-shared-slice-read-of-byte
+shared-slice-read-of-byte c = search needs
+
+of-byte-requires : tie.Need-of-byte-requires
+of-byte-requires c κs = search needs
+
+enum-known-kind : tie.Need-enum-known-kind
+enum-known-kind c = search needs
+
+enum-told : tie.Need-enum-told
+enum-told c = search needs
+
+returns : tie.Need-returns
+unfolding block
+returns c = kind-unknown _ _ (c .before .before .of-byte .ensures) (c .enum-told .given .1)
+
+shared-slice-read-wide : tie.Need-shared-slice-read-wide
+shared-slice-read-wide c = search needs
+
+wide-requires : tie.Need-wide-requires
+wide-requires c κs = search needs
+
+add-word-at : tie.Need-add-word-at
+add-word-at c = search needs
+
+word-at-requires : tie.Need-word-at-requires
+word-at-requires c κs = search needs
+
+lift-requires : tie.Need-lift-requires
+lift-requires c κs = search needs
+
+add-word-at-2 : tie.Need-add-word-at-2
+add-word-at-2 c = search needs
+
+word-at-requires-2 : tie.Need-word-at-requires-2
+word-at-requires-2 c κs = search needs
+
+lift-requires-2 : tie.Need-lift-requires-2
+lift-requires-2 c κs = search needs
+
+returns-2 : tie.Need-returns-2
+unfolding block
+returns-2 c = let k = c .before .before .before .before .before .before .before in
+    record {
+      column = c .before .before .before .before .wide .ensures .0;
+      kind = kind-known _ _ _ (k .before .before .of-byte .ensures) (k .kind .given .1);
+      low = c .before .before .lift .ensures ∙ ap lifted (c .before .before .before .word-at .ensures .0);
+      high = c .lift2 .ensures ∙ ap lifted (c .before .word-at2 .ensures .0);
+    }
+
+pub read-block-spec : {M : Type 1} → statement M
+read-block-spec =
+    tie.close
+    (tie.spec
+    mul-at
+    add-of-byte
+    shared-slice-read-of-byte
+    of-byte-requires
+    enum-known-kind
+    enum-told
+    returns
+    shared-slice-read-wide
+    wide-requires
+    add-word-at
+    word-at-requires
+    lift-requires
+    add-word-at-2
+    word-at-requires-2
+    lift-requires-2
+    returns-2)

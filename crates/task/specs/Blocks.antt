@@ -1,0 +1,37 @@
+-- The code's blocks and the model's. Assumes nothing.
+use mathlib.Core.Path.{_≡_}
+use mathlib.Core.Bool.{Bool, true, false, _&&_}
+use mathlib.Core.List.{List}
+use Prim.Native.Nat.{ℕ, _<_}
+use lib.Dec.{eqb}
+use Rattle.model.specs.Limits.{max-kind, reach}
+use Rattle.model.specs.Kinds.{number-of}
+use Rattle.model.specs.Tasks as model
+use Rattle.task.specs.declared.Block.{Block}
+use Rattle.task.specs.declared.BlockRead.{BlockRead}
+use Rattle.task.specs.declared.BlockRead.the-variants.{Of, Bad}
+
+-- a block of the code, as the model has it
+abbrev pub seen : Block → model.Block
+seen b = record { column = b .column; kind = number-of (b .kind); low = b .low; high = b .high }
+
+-- b is the model's block m
+pub record Same (b : Block) (m : model.Block) : Type 0 where
+  pub column : b .column ≡ m .column
+  pub kind : number-of (b .kind) ≡ m .kind
+  pub low : b .low ≡ m .low
+  pub high : b .high ≡ m .high
+
+-- what reading the model's block m answers: a block where its kind is 0 to 2, and else none
+abbrev pub Reads : BlockRead → model.Block → Type 0
+Reads (Of b) m = Same b m
+Reads Bad m = max-kind < m .kind
+
+-- the same of a block that has to be one of a well-formed task by itself
+abbrev pub ReadsSolid : BlockRead → model.Block → Type 0
+ReadsSolid (Of b) m = Same b m × (model.block-ok m ≡ true)
+ReadsSolid Bad m = model.block-ok m ≡ false
+
+-- "the first block has column 0 and bottom 0"
+unfoldable pub starts : List ℕ → Bool
+starts t = eqb (model.block t 0 .column) 0 && eqb (model.block t 0 .low) reach
