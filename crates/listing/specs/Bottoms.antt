@@ -7,6 +7,7 @@ use mathlib.Core.List.{List, [], _∷_}
 use lib.Dec.{ltb}
 use Rattle.runs.specs.Runs.{Run, run, Mem, Canon}
 use Rattle.runs.specs.Intervals.{Interval, Multiple}
+use Rattle.runs.specs.declared.Range.{Range}
 use Rattle.model.specs.Limits.{reach, max-rows}
 use Rattle.model.specs.Columns.{Device, height}
 use Rattle.model.specs.Tasks.{Block, block}
@@ -22,6 +23,10 @@ lowered r = run (r .first - lift) (r .last - lift)
 -- the lifted bottoms of a block from low to high that stands in the interval i, in steps of its height
 abbrev pub bottoms-in : ℕ → ℕ → Interval → Run
 bottoms-in low high i = run (i .bottom + lift + reach - low) (i .top + lift + reach - high)
+
+-- the same as a range of the code, for an interval from bottom to top
+abbrev pub range-in : ℕ → ℕ → ℕ → ℕ → ℕ → Range
+range-in low high h bottom top = record { first = bottom + lift + reach - low; last = top + lift + reach - high; step = h }
 
 -- the same for each interval that is high enough
 unfoldable pub bottoms : ℕ → ℕ → List Interval → List Run

@@ -1,3 +1,5 @@
 -- What is proved of bottoms and of lists in arrays.
 pub mod Bottoms
 pub mod Blocks
+pub mod Arrays
+pub mod Walk

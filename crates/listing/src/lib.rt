@@ -1,26 +1,44 @@
 // The ranges of a task on a sound record: those of one column, and the whole listing.
+// A list of runs stands in two arrays, one of their firsts and one of their lasts. Of a column, the list starts with all half rows, and is met with the
+// free intervals of one block after the other.
 use runs::Met;
 use runs::Range;
 use task::Block;
-use model::Kind;
 
 ghost use mathlib.Core.Path.{_≡_};
-ghost use Prim.Native.Nat.{ℕ, _+_, _*_, _≤_, _<_};
+ghost use mathlib.Core.List.{map};
+ghost use Prim.Native.Nat.{ℕ, _+_, _-_, _*_, _≤_, _<_};
 ghost use lib.ListN.{length, getD};
-ghost use Rattle.runs.specs.Runs.{Run, run, push};
-ghost use Rattle.listing.specs.Arrays.{read};
+ghost use Rattle.runs.specs.Runs.{run, push};
+ghost use Rattle.runs.specs.Meet.{Step, Lcm};
+ghost use Rattle.task.specs.Blocks.{seen};
+ghost use Rattle.words.specs.Words.{Widened};
+ghost use Rattle.model.specs.Limits.{reach, max-rows};
+ghost use Rattle.model.specs.Columns.{height};
+ghost use Rattle.listing.specs.Bottoms.{lift, lowered, range-in};
+ghost use Rattle.listing.specs.Arrays.{max-runs, read, Room, Pushable, Puttable, Joined, Meetable, Met as MetBlock};
+ghost use Rattle.listing.specs.Columns.{Given, On, OnAll, Lifted, Ranged};
 
 // Bottoms are kept this much above their value, so that a block far above the first gives no negative number.
 const LIFT: u32 = 512;
 
-// How many runs a list has, and their step. Their firsts and lasts stand in two arrays.
-struct Runs {
+// How many runs a list has, and their step.
+struct List {
     count: usize,
     step: u32,
 }
 
-fn push(firsts: &mut [u32; 64], lasts: &mut [u32; 64], n: usize, r: Range) -> usize
-    requires { ⌜ (n < 64) × (r .step < 1000) ⌝ }
+// The byte at `at`, as a number.
+fn byte(s: &[u8], at: usize) -> usize
+    requires { ⌜ at < length (now s) ⌝ }
+    ensures { λ r. ⌜ Widened (getD (now (s .entry)) at 0) r ⌝ }
+{
+    words::wide(s[at]) as usize
+}
+
+// Puts a range behind n runs: as one run with the last of them, where it goes on one step above its end.
+fn push(firsts: &mut [u32], lasts: &mut [u32], n: usize, r: Range) -> usize
+    requires { ⌜ Pushable (now firsts) (now lasts) n r ⌝ }
     ensures { λ k. ⌜ read k (now (firsts .exit)) (now (lasts .exit)) ≡ push (r .step) (run (r .first) (r .last)) (read n (now (firsts .entry)) (now (lasts .entry))) ⌝ }
 {
     if 0 < n {
@@ -35,14 +53,22 @@ fn push(firsts: &mut [u32; 64], lasts: &mut [u32; 64], n: usize, r: Range) -> us
     n + 1
 }
 
-fn put(a: Range, b: Range, firsts: &mut [u32; 64], lasts: &mut [u32; 64], n: usize) -> usize {
+// Puts what two ranges both name behind n runs.
+fn put(a: Range, b: Range, firsts: &mut [u32], lasts: &mut [u32], n: usize) -> usize
+    requires { ⌜ Puttable (now firsts) (now lasts) n a b ⌝ }
+    ensures { λ k. ⌜ Joined a b (read n (now (firsts .entry)) (now (lasts .entry))) (read k (now (firsts .exit)) (now (lasts .exit))) ⌝ }
+{
     match runs::meet(a, b) {
         Met::Empty => n,
         Met::Both(r) => push(firsts, lasts, n, r),
     }
 }
 
-fn bottoms_in(b: Block, bottom: u32, top: u32) -> Range {
+// The lifted bottoms at which a block stands in an interval.
+fn bottoms_in(b: Block, bottom: u32, top: u32) -> Range
+    requires { ⌜ (bottom ≤ top) × (top ≤ 2 * max-rows) × (b .high ≤ 2 * reach) × (b .low ≤ b .high) ⌝ }
+    ensures { λ r. ⌜ r ≡ range-in (b .low) (b .high) (height (seen b .kind)) bottom top ⌝ }
+{
     Range {
         first: bottom + LIFT + model::REACH - b.low,
         last: top + LIFT + model::REACH - b.high,
@@ -50,8 +76,12 @@ fn bottoms_in(b: Block, bottom: u32, top: u32) -> Range {
     }
 }
 
-fn meet_block(record: &[u8], c: usize, b: Block, firsts: &[u32; 64], lasts: &[u32; 64], list: Runs, to_firsts: &mut [u32; 64], to_lasts: &mut [u32; 64]) -> usize {
-    let count = record[model::COUNTS_AT + c] as usize;
+// Of the bottoms of a list, those at which a block of device column c stands free. Run i meets interval j, and the one that ends first is passed.
+fn meet_block(record: &[u8], c: usize, b: Block, lows: &[u32], highs: &[u32], list: List, firsts: &mut [u32], lasts: &mut [u32]) -> usize
+    requires { ⌜ Meetable (now «record») c (seen b) (now lows) (now highs) (list .count) (list .step) (now firsts) (now lasts) ⌝ }
+    ensures { λ k. ⌜ MetBlock (now («record» .entry)) c (seen b) (list .step) (read (list .count) (now (lows .entry)) (now (highs .entry))) (read k (now (firsts .exit)) (now (lasts .exit))) ⌝ }
+{
+    let count = byte(record, model::COUNTS_AT + c);
     let at = model::INTERVALS_AT + model::COLUMN_SIZE * c;
     let mut i: usize = 0;
     let mut j: usize = 0;
@@ -64,12 +94,12 @@ fn meet_block(record: &[u8], c: usize, b: Block, firsts: &[u32; 64], lasts: &[u3
             continue;
         }
         let x = Range {
-            first: firsts[i],
-            last: lasts[i],
+            first: lows[i],
+            last: highs[i],
             step: list.step,
         };
         let y = bottoms_in(b, bottom, top);
-        n = put(x, y, to_firsts, to_lasts, n);
+        n = put(x, y, firsts, lasts, n);
         if x.last < y.last {
             i += 1;
         } else {

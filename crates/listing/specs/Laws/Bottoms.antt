@@ -24,6 +24,10 @@ use Rattle.listing.specs.Bottoms.{lift, bottoms-in, bottoms}
 
 -- ---- the list of ranges, one interval after the other
 
+pub bottoms-none : (low high : ℕ) → bottoms low high [] ≡ []
+unfolding bottoms
+bottoms-none low high = refl
+
 pub bottoms-short : (low high : ℕ) (i : Interval) (L : List Interval) → i .top - i .bottom < high - low → bottoms low high (i ∷ L) ≡ bottoms low high L
 unfolding bottoms
 bottoms-short low high i L h = rw (lt-ltb (i .top - i .bottom) (high - low) h)

@@ -25,9 +25,9 @@ count-tail s m n r [] c b = omega (arith, b (r .first) (inl ((0, omega arith), o
 count-tail s m n r (q ∷ L) c b = omega (arith, count-tail s (r .last + 2 * s) n q L (c .2) (λ y h. b y (inr h)))
 
 -- a canonical list from m on and below n has few runs
-pub count-above : (s m n : ℕ) (L : List Run) → m ≤ n → From s m L → ((y : ℕ) → Mem s y L → y < n) → 2 * s * length L + m < n + 2 * s + 1
-count-above s m n [] l c b = omega arith
-count-above s m n (r ∷ L) l c b = omega (arith, count-tail s m n r L c b)
+pub count-above : (s m n : ℕ) (L : List Run) → 1 ≤ s → m ≤ n → From s m L → ((y : ℕ) → Mem s y L → y < n) → 2 * s * length L + m < n + 2 * s
+count-above s m n [] p l c b = omega arith
+count-above s m n (r ∷ L) p l c b = omega (arith, count-tail s m n r L c b)
 
 -- what a canonical list names from m on
 pub from-least : (s m k : ℕ) (L : List Run) → From s k L → ((y : ℕ) → Mem s y L → m ≤ y) → From s m L
@@ -182,8 +182,6 @@ module _ (a b : ℕ) (A B : List Run) where
           go (inl l) = l
           go (inr l) = let (u, v) = w .rest y .1 (l, t) in absurd (h y u v)
 
-  -- what is written is no more than what both name: so it has few runs, where one of the lists names numbers from low on and below high
-  pub few-written : (s n low high : ℕ) (O : List Run) → low ≤ high → Lists s (both? a b A B) n O → ((y : ℕ) → Mem a y A → (low ≤ y) × (y < high)) → 2 * s * length O + low < high + 2 * s + 1
-  few-written s n low high O l g h =
-      let at : (y : ℕ) → Mem s y O → (low ≤ y) × (y < high) = λ y m. h y (both-to y (g .named y .0 m .1) .0) in
-      count-above s low high O l (from-least s low 0 O (g .canon) (λ y m. at y m .0)) (λ y m. at y m .1)
+  -- what is written is no more than what both name
+  pub written-of : (s n y : ℕ) (O : List Run) → Lists s (both? a b A B) n O → Mem s y O → Mem a y A
+  written-of s n y O g m = both-to y (g .named y .0 m .1) .0
