@@ -49,15 +49,25 @@ pub record Puttable (firsts lasts : List ℕ) (n : ℕ) (a b : Range) : Type 0 w
 abbrev pub Joined : Range → Range → List Run → List Run → Type 0
 Joined a b O O′ = (Meets a b Empty × (O′ ≡ O)) ⊎ ((r : Range) × Both-of a b r × (O′ ≡ push (r .step) (run (r .first) (r .last)) O))
 
--- Column c of the record r has intervals of cells of the block k, which is whole cells; n runs in steps of s stand in two arrays, and there is room for more.
-pub record Meetable (r : List ℕ) (c : ℕ) (k : model.Block) (firsts lasts : List ℕ) (n s : ℕ) (to-firsts to-lasts : List ℕ) : Type 0 where
+-- interval j of column c of the record r
+abbrev pub bottom-at : List ℕ → ℕ → ℕ → ℕ
+bottom-at r c j = word r (column-at c + interval-size * j)
+
+abbrev pub top-at : List ℕ → ℕ → ℕ → ℕ
+top-at r c j = word r (column-at c + interval-size * j + 2)
+
+pub record IntervalAt (r : List ℕ) (c j bottom top : ℕ) : Type 0 where
+  pub bottom-is : bottom ≡ bottom-at r c j
+  pub top-is : top ≡ top-at r c j
+
+-- Column c of the record r has intervals of cells of the block k, which is whole cells; n runs in steps of s stand in two arrays.
+pub record Meetable (r : List ℕ) (c : ℕ) (k : model.Block) (firsts lasts : List ℕ) (n s : ℕ) : Type 0 where
   pub size : length r ≡ record-size
   pub column : c < max-columns
   pub few : count-of r c ≤ max-intervals
   pub apart : Apart 0 (listed-intervals r c)
   pub grid : OnGrid (height (k .kind)) (listed-intervals r c)
-  pub ends : (j : ℕ) → j < count-of r c
-      → (word r (column-at c + interval-size * j) < word r (column-at c + interval-size * j + 2)) × (word r (column-at c + interval-size * j + 2) ≤ 2 * max-rows)
+  pub ends : (j : ℕ) → j < count-of r c → (bottom-at r c j < top-at r c j) × (top-at r c j ≤ 2 * max-rows)
   pub full : k .low < k .high
   pub below : k .high ≤ 2 * reach
   pub whole : Multiple (height (k .kind)) (k .high - k .low)
@@ -67,7 +77,6 @@ pub record Meetable (r : List ℕ) (c : ℕ) (k : model.Block) (firsts lasts : L
   pub canon : Canon s (read n firsts lasts)
   pub spaced : Spaced s (read n firsts lasts)
   pub bound : (y : ℕ) → Mem s y (read n firsts lasts) → (lift ≤ y) × (y < lift + 2 * max-rows)
-  pub to-room : Room to-firsts to-lasts
 
 -- the runs O are those at which the block k stands free too, in column c of the record r
 abbrev pub Met : List ℕ → ℕ → model.Block → ℕ → List Run → List Run → Type 0

@@ -25,7 +25,7 @@ use Rattle.model.specs.Sound.{count-of}
 use Rattle.model.specs.Laws.Columns.{height-two}
 use Rattle.model.specs.Laws.Parts.{length-list, getD-list}
 use Rattle.listing.specs.Bottoms.{lift, bottoms-in, range-in, bottoms}
-use Rattle.listing.specs.Arrays.{max-runs, read, Room, Pushable, Puttable, Joined, Meetable, Met}
+use Rattle.listing.specs.Arrays.{max-runs, read, Room, Pushable, Puttable, Joined, bottom-at, top-at, Meetable, Met}
 use Rattle.listing.specs.Laws.Bottoms.{multiple-sub, bottoms-none, bottoms-short, bottoms-tall, bottoms-from, bottoms-spaced}
 use Rattle.listing.specs.Laws.Arrays.{length-read, drop-read, drop-all, steps-at, ends-named, few-runs}
 
@@ -34,12 +34,6 @@ unfolding height
 height-small k = cond-ind (λ h. h < 256) (eqb k kind-C) (λ e. omega arith) (λ e. omega arith)
 
 -- ---- the intervals that the record lists, one after the other
-
-abbrev pub bottom-at : List ℕ → ℕ → ℕ → ℕ
-bottom-at r c j = word r (column-at c + interval-size * j)
-
-abbrev pub top-at : List ℕ → ℕ → ℕ → ℕ
-top-at r c j = word r (column-at c + interval-size * j + 2)
 
 module _ (r : List ℕ) (c : ℕ) where
   pub count-listed : length (listed-intervals r c) ≡ count-of r c
@@ -65,7 +59,13 @@ grid-at h (suc j) (i ∷ L) d (x, z, g) l = grid-at h j L d g (omega arith)
 abbrev pub range : ℕ → ℕ → ℕ → Range
 range a e s = record { first = a; last = e; step = s }
 
-module _ (r : List ℕ) (c : ℕ) (k : model.Block) (F T : List ℕ) (n s : ℕ) (G U : List ℕ) (m : Meetable r c k F T n s G U) where
+-- the runs A below i are passed, and the intervals of column c below j; O is written
+abbrev pub Walking : List ℕ → ℕ → model.Block → ℕ → List Run → ℕ → ℕ → List Run → Type 0
+Walking r c k s A i j O =
+    (l : ℕ) → Lcm s (height (k .kind)) l
+    → Walk s (height (k .kind)) l (both? s (height (k .kind)) A (bottoms (k .low) (k .high) (listed-intervals r c))) (drop i A) (bottoms (k .low) (k .high) (drop j (listed-intervals r c))) O
+
+module _ (r : List ℕ) (c : ℕ) (k : model.Block) (F T : List ℕ) (n s : ℕ) (m : Meetable r c k F T n s) where
   abbrev h : ℕ
   h = height (k .kind)
 
@@ -75,11 +75,7 @@ module _ (r : List ℕ) (c : ℕ) (k : model.Block) (F T : List ℕ) (n s : ℕ)
   abbrev B : List Run
   B = bottoms (k .low) (k .high) (listed-intervals r c)
 
-  -- the runs below i are passed, and the intervals below j; O is written
-  abbrev pub Walking : ℕ → ℕ → List Run → Type 0
-  Walking i j O = (l : ℕ) → Lcm s h l → Walk s h l (both? s h A B) (drop i A) (bottoms (k .low) (k .high) (drop j (listed-intervals r c))) O
-
-  pub walking-start : Walking 0 0 []
+  pub walking-start : Walking r c k s A 0 0 []
   walking-start l p =
       walk-start s h A B l (m .canon)
       (from-weaken h 0 (0 + lift + reach - k .low) B (omega arith)
@@ -90,7 +86,7 @@ module _ (r : List ℕ) (c : ℕ) (k : model.Block) (F T : List ℕ) (n s : ℕ)
   spaced l p = both-steps s h A B l p (m .spaced) (bottoms-spaced h (k .low) (k .high) (m .full) (omega (arith, m .below)) (m .whole) 0 (listed-intervals r c) (m .apart) (m .grid))
 
   -- an interval that is too short
-  pub walking-short : (i j : ℕ) (O : List Run) → j < count-of r c → top-at r c j - bottom-at r c j < k .high - k .low → Walking i j O → Walking i (j + 1) O
+  pub walking-short : (i j : ℕ) (O : List Run) → j < count-of r c → top-at r c j - bottom-at r c j < k .high - k .low → Walking r c k s A i j O → Walking r c k s A i (j + 1) O
   walking-short i j O q t w l p =
       rw (drop-listed r c j q, bottoms-short (k .low) (k .high) (interval (bottom-at r c j) (top-at r c j)) (drop (j + 1) (listed-intervals r c)) t) at (w l p)
 
@@ -116,7 +112,7 @@ module _ (r : List ℕ) (c : ℕ) (k : model.Block) (F T : List ℕ) (n s : ℕ)
         ap (bottoms (k .low) (k .high)) (drop-listed r c j q)
         ∙ bottoms-tall (k .low) (k .high) (interval (bottom-at r c j) (top-at r c j)) (drop (j + 1) (listed-intervals r c)) t
 
-    current : (O : List Run) → Walking i j O → (l : ℕ) → Lcm s h l → Walk s h l (both? s h A B) (x ∷ X) (y ∷ Y) O
+    current : (O : List Run) → Walking r c k s A i j O → (l : ℕ) → Lcm s h l → Walk s h l (both? s h A B) (x ∷ X) (y ∷ Y) O
     current O w l p = rw (left, right) at (w l p)
 
     -- as ranges of the code
@@ -151,46 +147,49 @@ module _ (r : List ℕ) (c : ℕ) (k : model.Block) (F T : List ℕ) (n s : ℕ)
     put-of O O′ l p (inl (none, e)) = inl (none, e)
     put-of O O′ l p (inr (e, z, o)) = let u : e .step ≡ l = lcm-unique s h (e .step) l (z .lcm) p in rw (o, u) (rw u at (put-both O e z))
 
-    -- there is room for it
-    pub puttable : (o : ℕ) → Room G U → Walking i j (read o G U) → Puttable G U o a b
-    puttable o room w = record {
-      left = proper-left;
-      right = proper-right;
-      pushable = λ e z.
-          let v = current (read o G U) w (e .step) (z .lcm) in
-          let made =
-          written-met s h (e .step) (both? s h A B) (m .step .0) (omega (arith, height-two (k .kind))) (spaced (e .step) (z .lcm)) x y X Y (read o G U) v
-          (push (e .step) (run (e .first) (e .last)) (read o G U)) (put-both (read o G U) e z) in
-          record {
-            room = room;
-            fits = few-runs (e .step) (push (e .step) (run (e .first) (e .last)) (read o G U)) (two (e .step) (z .lcm)) (made .canon)
-                (λ y n. m .bound y (written-of s h A B (e .step) _ y (push (e .step) (run (e .first) (e .last)) (read o G U)) made n));
-            step = omega (arith, z .lcm .small, mul-le-mul {n₁ = s} {m₁ = h} {n₂ = 255} {m₂ = 255} (omega (arith, m .step)) (omega (arith, height-small (k .kind))));
-            last = λ l. omega (arith, m .bound (getD U (o - 1) 0)
-                (written-of s h A B (e .step) (v .n) (getD U (o - 1) 0) (read o G U) (v .written) (ends-named (e .step) 0 o (o - 1) G U (v .written .canon) (omega arith) .1)));
-          };
-    }
+    two : (l : ℕ) → Lcm s h l → 2 ≤ l
+    two l p = go (p .right)
       where
-        two : (l : ℕ) → Lcm s h l → 2 ≤ l
-        two l p = go (p .right)
-          where
-            go : Multiple h l → 2 ≤ l
-            go (zero, e) = absurd (omega (arith, p .pos))
-            go (suc j, e) = omega (arith, height-two (k .kind))
+        go : Multiple h l → 2 ≤ l
+        go (zero, e) = absurd (omega (arith, p .pos))
+        go (suc j, e) = omega (arith, height-two (k .kind))
 
-    -- and the run that ends first is passed
-    pub walking-left : (O O′ : List Run) → Walking i j O → Joined a b O O′ → a .last < b .last → Walking (i + 1) j O′
-    walking-left O O′ w z e l p =
-        rw right
-        (pass-left s h l (both? s h A B) (m .step .0) (omega (arith, height-two (k .kind))) (spaced l p) x y X Y O (current O w l p) O′ (put-of O O′ l p z) (omega arith))
+    -- there is room for it
+    room-for : (o : ℕ) (G U : List ℕ) → Room G U → Walking r c k s A i j (read o G U) → (e : Range) → Both-of a b e → Pushable G U o e
+    room-for o G U room w e z =
+        let v = current (read o G U) w (e .step) (z .lcm) in
+        let made =
+        written-met s h (e .step) (both? s h A B) (m .step .0) (omega (arith, height-two (k .kind))) (spaced (e .step) (z .lcm)) x y X Y (read o G U) v
+        (push (e .step) (run (e .first) (e .last)) (read o G U)) (put-both (read o G U) e z) in
+        record {
+          room = room;
+          fits = few-runs (e .step) (push (e .step) (run (e .first) (e .last)) (read o G U)) (two (e .step) (z .lcm)) (made .canon)
+              (λ y n. m .bound y (written-of s h A B (e .step) _ y (push (e .step) (run (e .first) (e .last)) (read o G U)) made n));
+          step = omega (arith, z .lcm .small, mul-le-mul {n₁ = s} {m₁ = h} {n₂ = 255} {m₂ = 255} (omega (arith, m .step)) (omega (arith, height-small (k .kind))));
+          last = λ l. omega (arith, m .bound (getD U (o - 1) 0)
+              (written-of s h A B (e .step) (v .n) (getD U (o - 1) 0) (read o G U) (v .written) (ends-named (e .step) 0 o (o - 1) G U (v .written .canon) (omega arith) .1)));
+        }
 
-    pub walking-right : (O O′ : List Run) → Walking i j O → Joined a b O O′ → b .last ≤ a .last → Walking i (j + 1) O′
-    walking-right O O′ w z e l p =
-        rw left
-        (pass-right s h l (both? s h A B) (m .step .0) (omega (arith, height-two (k .kind))) (spaced l p) x y X Y O (current O w l p) O′ (put-of O O′ l p z) e)
+    -- d is the code's range of the interval
+    module _ (d : Range) (is : d ≡ b) where
+      pub puttable : (o : ℕ) (G U : List ℕ) → Room G U → Walking r c k s A i j (read o G U) → Puttable G U o a d
+      puttable o G U room w = rw is (record { left = proper-left; right = proper-right; pushable = room-for o G U room w })
+
+      -- the run that ends first is passed
+      pub walking-left : (O O′ : List Run) → Walking r c k s A i j O → Joined a d O O′ → getD T i 0 < d .last → Walking r c k s A (i + 1) j O′
+      walking-left O O′ w z e l p =
+          rw right
+          (pass-left s h l (both? s h A B) (m .step .0) (omega (arith, height-two (k .kind))) (spaced l p) x y X Y O (current O w l p) O′
+          (put-of O O′ l p (rw is at z)) (omega (arith, rw is at e)))
+
+      pub walking-right : (O O′ : List Run) → Walking r c k s A i j O → Joined a d O O′ → d .last ≤ getD T i 0 → Walking r c k s A i (j + 1) O′
+      walking-right O O′ w z e l p =
+          rw left
+          (pass-right s h l (both? s h A B) (m .step .0) (omega (arith, height-two (k .kind))) (spaced l p) x y X Y O (current O w l p) O′
+          (put-of O O′ l p (rw is at z)) (rw is at e))
 
   -- one of the two is at its end
-  pub walking-done : (i j : ℕ) (O : List Run) → (n ≤ i) ⊎ (count-of r c ≤ j) → Walking i j O → Met r c k s A O
+  pub walking-done : (i j : ℕ) (O : List Run) → (n ≤ i) ⊎ (count-of r c ≤ j) → Walking r c k s A i j O → Met r c k s A O
   walking-done i j O e w l p =
       walk-done s h A B l (drop i A) (bottoms (k .low) (k .high) (drop j (listed-intervals r c))) O (w l p) (λ y u v. none y e u v)
     where
