@@ -32,6 +32,12 @@ pub record Room (F T : List ℕ) : Type 0 where
   pub firsts : length F ≡ max-runs
   pub lasts : length T ≡ max-runs
 
+-- the first n runs are of lifted numbers
+pub record Lowerable (firsts lasts : List ℕ) (n : ℕ) : Type 0 where
+  pub room : Room firsts lasts
+  pub few : n ≤ max-runs
+  pub lifted : (i : ℕ) → i < n → (lift ≤ getD firsts i 0) × (lift ≤ getD lasts i 0)
+
 -- there is room for the range r behind the first n runs
 pub record Pushable (firsts lasts : List ℕ) (n : ℕ) (r : Range) : Type 0 where
   pub room : Room firsts lasts

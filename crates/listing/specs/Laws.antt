@@ -3,3 +3,4 @@ pub mod Bottoms
 pub mod Blocks
 pub mod Arrays
 pub mod Walk
+pub mod Column

@@ -12,7 +12,7 @@ use mathlib.Core.Bool.{Bool, true, false}
 use lib.Dec.{eqb}
 use borrow.Author.Tests.{eqb-true, eqb-false}
 use Rattle.runs.specs.Laws.Tests.{lt-or-ge}
-use Rattle.runs.specs.Meet.{Both-of, Meets}
+use Rattle.runs.specs.Meet.{Step, Proper, Both-of, Meets}
 use Rattle.runs.specs.declared.Range.{Range}
 use Rattle.runs.specs.declared.Met.{Met}
 use Rattle.runs.specs.declared.Met.the-variants.{Empty, Both}
@@ -146,16 +146,43 @@ few-runs s L p c h =
 
 -- ---- a copy, and the runs lowered
 
-module _ (n i : ℕ) (F T G U : List ℕ) where
-  pub read-copied : i < length G → i < length U → read i G U ≡ read i F T → read (i + 1) (set G i (getD F i 0)) (set U i (getD T i 0)) ≡ read (i + 1) F T
-  unfolding read
-  read-copied l g e = read-more i (getD F i 0) (getD T i 0) G U l g ∙ rw (add-one, e)
+module _ (F T : List ℕ) where
+  -- the first i runs are copied
+  pub record Copying (i : ℕ) (G U : List ℕ) : Type 0 where
+    pub room : Room G U
+    pub done : read i G U ≡ read i F T
 
-  pub read-lowered : i < length G → i < length U → read i G U ≡ map lowered (read i F T)
-      → read (i + 1) (set G i (getD F i 0 - lift)) (set U i (getD T i 0 - lift)) ≡ map lowered (read (i + 1) F T)
+  pub copy-start : (G U : List ℕ) → Room G U → Copying 0 G U
   unfolding read
-  read-lowered l g e =
-      read-more i (getD F i 0 - lift) (getD T i 0 - lift) G U l g ∙ rw (add-one, e, map-append lowered (read i F T) (run (getD F i 0) (getD T i 0) ∷ []))
+  copy-start G U r = record { room = r; done = refl }
+
+  pub copy-next : (i : ℕ) (G U : List ℕ) → i < max-runs → Copying i G U → Copying (i + 1) (set G i (getD F i 0)) (set U i (getD T i 0))
+  unfolding read
+  copy-next i G U l c = record {
+    room = record { firsts = length-set G i _ ∙ c .room .firsts; lasts = length-set U i _ ∙ c .room .lasts };
+    done = read-more i (getD F i 0) (getD T i 0) G U (omega (arith, c .room .firsts)) (omega (arith, c .room .lasts)) ∙ rw (add-one, c .done);
+  }
+
+  -- the first i runs are lowered, and the others as they were
+  pub record Lowering (i : ℕ) (G U : List ℕ) : Type 0 where
+    pub room : Room G U
+    pub done : read i G U ≡ map lowered (read i F T)
+    pub rest : (k : ℕ) → i ≤ k → (getD G k 0 ≡ getD F k 0) × (getD U k 0 ≡ getD T k 0)
+
+  pub lower-start : Room F T → Lowering 0 F T
+  unfolding read
+  lower-start r = record { room = r; done = refl; rest = λ k l. (refl, refl) }
+
+  pub lower-next : (i : ℕ) (G U : List ℕ) → i < max-runs → Lowering i G U → Lowering (i + 1) (set G i (getD G i 0 - lift)) (set U i (getD U i 0 - lift))
+  unfolding read
+  lower-next i G U l c = record {
+    room = record { firsts = length-set G i _ ∙ c .room .firsts; lasts = length-set U i _ ∙ c .room .lasts };
+    done =
+        let (e, f) = c .rest i (omega arith) in
+        read-more i (getD G i 0 - lift) (getD U i 0 - lift) G U (omega (arith, c .room .firsts)) (omega (arith, c .room .lasts))
+        ∙ rw (add-one, c .done, e, f, map-append lowered (read i F T) (run (getD F i 0) (getD T i 0) ∷ []));
+    rest = λ k g. let (e, f) = c .rest k (omega arith) in (getD-set-other G i k _ 0 (omega arith) ∙ e, getD-set-other U i k _ 0 (omega arith) ∙ f);
+  }
 
 -- ---- room for one run more
 
@@ -193,3 +220,15 @@ joined-empty a b m O e h = inl (met-is a b m Empty e h, refl)
 
 pub met-both : (a b : Range) (m : Met) (r : Range) → m ≡ Both r → Meets a b m → Both-of a b r
 met-both a b m r e h = met-is a b m (Both r) e h
+
+-- ---- the least common multiple, as the step of what is named at 0
+
+proper-zero : (s : ℕ) → Step s → Proper (record { first = 0; last = 0; step = s })
+proper-zero s p = record { step = p; last = (0, omega arith); bound = omega arith }
+
+pub steps-proper : (a b : ℕ) → Step a × Step b → Proper (record { first = 0; last = 0; step = a }) × Proper (record { first = 0; last = 0; step = b })
+steps-proper a b (p, q) = (proper-zero a p, proper-zero b q)
+
+-- both name 0
+pub zero-met : (a b : ℕ) (m : Met) → m ≡ Empty → Meets (record { first = 0; last = 0; step = a }) (record { first = 0; last = 0; step = b }) m → ⊥
+zero-met a b m e h = met-is _ _ m Empty e h 0 ((0, omega arith), omega arith) ((0, omega arith), omega arith)
