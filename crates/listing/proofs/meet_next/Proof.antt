@@ -1,3 +1,8 @@
+-- `listing::meet_next` meets its contract, by `meetable` before the walk and `next-lifted` after it. Assumes nothing.
+use mathlib.Core.Path.{_∙_}
+use native.Mathlib.Omega.{arith}
+use Rattle.listing.specs.Arrays.{Room}
+use Rattle.listing.specs.Laws.Column.{block-ready, on-column, meetable, next-steps, next-lifted}
 use borrow.Author.Needs.{needs}
 use Rattle.listing.proofs.meet_next.Statement.{statement}
 use Rattle.listing.proofs.meet_next.Tie as tie
@@ -9,53 +14,57 @@ use Rattle.listing.proofs.meet_block.Reads as meet-block-reads
 use Rattle.task.proofs.Block.height.Reads as height-reads
 use Rattle.task.proofs.block_at.Reads as block-at-reads
 
--- src/lib.rt:227:9
-block-at-requires : tie.Need-block-at-requires
-block-at-requires c κs = ?
+-- the copy keeps its lengths
+room : (c : tie.After-copy-runs) → Room (c .copy-runs .last .1 .1 .1 .0) (c .copy-runs .last .1 .1 .1 .1 .0)
+room c = record { firsts = c .copy-runs .kept .1 .1 .1 .0 ∙ c .before .before .before .before .before .before .before .before .before .before .before .before .pre .1 .firsts; lasts = c .copy-runs .kept .1 .1 .1 .1 .0 ∙ c .before .before .before .before .before .before .before .before .before .before .before .before .pre .1 .lasts }
 
--- src/lib.rt:228:5
+block-at-requires : tie.Need-block-at-requires
+block-at-requires c κs = let s = c .before .before .before .before .before .before in block-ready (s .args .«record» .now) (s .args .task .now) (s .pre .0 .liftable .given) (s .args .k) (s .pre .0 .next)
+
 copy-runs-requires : tie.Need-copy-runs-requires
 copy-runs-requires c κs = search needs
 
--- src/lib.rt:229:36
 cast-meet-block : tie.Need-cast-meet-block
 cast-meet-block c = search needs
 
--- src/lib.rt:229:32
 add-meet-block : tie.Need-add-meet-block
-add-meet-block c = ?
+add-meet-block c =
+    let s = c .before .before .before .before .before .before .before .before .before .before .before .before .before .before .before .before .before in
+    omega (arith, on-column (s .args .«record» .now) (s .args .task .now) (s .args .p) (s .args .k) (s .args .list .count) (s .args .list .step) (s .args .firsts .now) (s .args .lasts .now) (s .pre .0) (c .before .before .before .before .before .before .before .before .before .before .block-at .result) (c .before .before .before .before .before .before .before .before .before .before .block-at .ensures))
 
--- src/lib.rt:229:9
 meet-block-requires : tie.Need-meet-block-requires
-meet-block-requires c κs = ?
+meet-block-requires c κs =
+    let s = c .before .before .before .before .before .before .before .before .before .before .before .before .before .before .before .before .before .before .before .before .before in
+    let y = c .before .before .before .before .before .before .before .before .before .copy-runs in
+    (meetable (s .args .«record» .now) (s .args .task .now) (s .args .p) (s .args .k) (s .args .list .count) (s .args .list .step) (s .args .firsts .now) (s .args .lasts .now) (s .pre .0) (c .before .before .before .before .before .before .before .before .before .before .before .before .before .before .block-at .result) (c .before .before .before .before .before .before .before .before .before .before .before .before .before .before .block-at .ensures) (y .last .1 .1 .1 .0) (y .last .1 .1 .1 .1 .0) (room (c .before .before .before .before .before .before .before .before .before)) (y .ensures), s .pre .0 .room)
 
--- src/lib.rt:232:38
 height-requires : tie.Need-height-requires
 height-requires c κs = search needs
 
--- src/lib.rt:232:15
 common-step-requires : tie.Need-common-step-requires
-common-step-requires c κs = ?
+common-step-requires c κs =
+    let s = c .before .before .before .before .before .before .before .before .before .before .before .before .before .before .before .before .before .before .before .before .before .before .before .before .before .before .before in
+    next-steps (s .args .«record» .now) (s .args .task .now) (s .args .p) (s .args .k) (s .args .list .count) (s .args .list .step) (s .args .firsts .now) (s .args .lasts .now) (s .pre .0) (c .before .before .before .before .before .before .before .before .before .before .before .before .before .before .before .before .before .before .before .before .block-at .result) (c .before .before .before .before .before .before .before .before .before .before .before .before .before .before .before .before .before .before .before .before .block-at .ensures) (c .height .result) (c .height .ensures)
 
--- src/lib.rt:223:1
 same-length : tie.Need-same-length
 same-length c = search needs
 
--- src/lib.rt:223:1
 same-length-2 : tie.Need-same-length-2
 same-length-2 c = search needs
 
--- src/lib.rt:223:1
 same-length-3 : tie.Need-same-length-3
 same-length-3 c = search needs
 
--- src/lib.rt:223:1
 same-length-4 : tie.Need-same-length-4
 same-length-4 c = search needs
 
--- src/lib.rt:223:1
 returns : tie.Need-returns
-returns c = ?
+returns c =
+    let s = c .before .before .before .before .before .before .before .before .before .before .before .before .before .before .before .before .before .before .before .before .before .before .before .before .before .before .before .before in
+    let y = c .before .before .before .before .before .before .before .before .before .before .before .before .before .before .before .before .copy-runs in
+    let z = c .before .before .before .before .before .before .meet-block in
+    next-lifted (s .args .«record» .now) (s .args .task .now) (s .args .p) (s .args .k) (s .args .list .count) (s .args .list .step) (s .args .firsts .now) (s .args .lasts .now) (s .pre .0) (c .before .before .before .before .before .before .before .before .before .before .before .before .before .before .before .before .before .before .before .before .before .block-at .result) (c .before .before .before .before .before .before .before .before .before .before .before .before .before .before .before .before .before .before .before .before .before .block-at .ensures) (y .last .1 .1 .1 .0) (y .last .1 .1 .1 .1 .0) (z .last .1 .1 .1 .1 .1 .1 .0) (z .last .1 .1 .1 .1 .1 .1 .1 .0)
+    (z .result) (c .before .height .result) (c .common-step .result) (y .ensures) (z .ensures) (c .before .height .ensures) (c .common-step .ensures)
 
 pub meet-next-spec : {M : Type 1} → statement M
 meet-next-spec =
