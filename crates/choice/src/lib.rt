@@ -152,34 +152,25 @@ fn consider(best: Best, column: u32, bottom: u32, pieces: u32, stretch: u32) -> 
     requires { ⌜ Small best × (pieces ≤ max-pieces) × (stretch ≤ max-stretch) ⌝ }
     ensures { λ r. ⌜ (r ≡ better-of best column bottom pieces stretch) × Small r ⌝ }
 {
+    let new = Best::At {
+        column,
+        bottom,
+        pieces,
+        stretch,
+    };
     let Best::At {
-        column: q,
-        bottom: z,
+        column: _,
+        bottom: _,
         pieces: n,
         stretch: s,
     } = best
     else {
-        return Best::At {
-            column,
-            bottom,
-            pieces,
-            stretch,
-        };
+        return new;
     };
     if pieces * s < n * stretch {
-        return Best::At {
-            column,
-            bottom,
-            pieces,
-            stretch,
-        };
+        return new;
     }
-    Best::At {
-        column: q,
-        bottom: z,
-        pieces: n,
-        stretch: s,
-    }
+    best
 }
 
 // How far up the next bottom to score is: the room, rounded up to whole steps, and one step at least.

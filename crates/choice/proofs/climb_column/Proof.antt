@@ -1,4 +1,4 @@
--- `choice::climb_column` meets its contract. Assumes nothing.
+-- `choice::climb_column` meets its contract: the ranges that are lent on are those of the column. Assumes nothing.
 use native.Mathlib.Omega.{arith}
 use lib.ListN.{length-take}
 use Rattle.choice.specs.Laws.Columns.{ranges-are}
@@ -9,7 +9,7 @@ use Rattle.choice.proofs.climb_column.Tie as tie
 column-ranges-requires : tie.Need-column-ranges-requires
 column-ranges-requires c κs =
     let p = c .before .before .before .before .before .before .pre in
-    (record { sound = p .0 .sound; sized = p .0 .sized; formed = p .0 .well-formed; stub = ? }, p .3, p .1)
+    (record { sound = p .0 .sound; sized = p .0 .sized; formed = p .0 .well-formed }, p .3, p .1)
 
 slice-reshare-prefix-climb-ranges : tie.Need-slice-reshare-prefix-climb-ranges
 slice-reshare-prefix-climb-ranges c = search needs
