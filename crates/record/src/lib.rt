@@ -4,10 +4,5 @@ pub mod device;
 pub mod enter;
 pub mod entries;
 pub mod fits;
-<<<<<<< HEAD
-pub mod sound;
-pub mod leave;
-=======
 pub mod leave;
 pub mod sound;
->>>>>>> 9eceb2215ee04268c9d2bd0f0eb0837e4ebf093d
