@@ -50,8 +50,8 @@ fn unused_number(book: &Book) -> u32 {
     u32::from((1..).find(is_unused).expect("at most 64 are running"))
 }
 
-/// The book of a device after some calls that place and release single blocks.
-fn used_card(rng: &mut Rng, device: Device, most_calls: usize) -> Book {
+/// The book of a device after up to so many calls that place and release small tasks.
+pub fn used_card(rng: &mut Rng, device: Device, most_calls: usize) -> Book {
     let mut book = Book::on(device);
     let mood = Mood {
         place: 70,

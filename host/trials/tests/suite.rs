@@ -1,7 +1,6 @@
 //! All trials of an implementation, each as a test. A further implementation is one line at the end.
 
 use calls::Calls;
-use oracle::arbitrary;
 use oracle::rng::Rng;
 use oracle::{Book, Device};
 use trials::histories::{self, Answers};
@@ -26,13 +25,13 @@ fn new_on_any_arguments(subject: &dyn Calls) {
 }
 
 fn many_histories(subject: &dyn Calls) {
-    let answers = must(histories::many(subject, 1000, 300, 80));
+    let answers = must(histories::many(subject, 1000, 1500, 80));
     must_have(&answers, &[1, 0, -4, -5, -6, -7, -9, -10, -11]);
 }
 
 fn long_histories_on_small_cards(subject: &dyn Calls) {
     for seed in 0..8 {
-        let answers = must(histories::long_on_small(subject, seed, 4000));
+        let answers = must(histories::long_on_small(subject, seed, 20_000));
         must_have(&answers, &[0, -10, -11]);
     }
 }
@@ -40,35 +39,40 @@ fn long_histories_on_small_cards(subject: &dyn Calls) {
 fn long_histories_on_the_largest_card(subject: &dyn Calls) {
     let mut answers = Answers::new();
     for (seed, blocks) in [(1, 1), (2, 3), (3, 32)] {
-        let more = must(histories::long_on_largest(subject, seed, 600, blocks));
+        let more = must(histories::long_on_largest(subject, seed, 3000, blocks));
         histories::add(&mut answers, more);
     }
     must_have(&answers, &[1, 0, -8]);
 }
 
 fn shapes_of_two_steps(subject: &dyn Calls) {
-    let fitting = must(shapes::mixed_steps(subject, 5, 150));
+    let fitting = must(shapes::mixed_steps(subject, 5, 600));
     assert!(fitting > 1000, "{fitting}");
 }
 
 fn releases_between_free_stretches(subject: &dyn Calls) {
-    let joined = must(shapes::release_between(subject, 6, 200));
+    let joined = must(shapes::release_between(subject, 6, 1000));
     assert!(joined > 500, "{joined}");
 }
 
 fn no_position_exactly_when_there_is_none(subject: &dyn Calls) {
-    let (some, none) = must(shapes::no_position(subject, 7, 200));
+    let (some, none) = must(shapes::no_position(subject, 7, 1000));
     assert!(some > 500 && none > 500, "{some} {none}");
 }
 
 fn every_byte_of_a_record(subject: &dyn Calls) {
     let mut rng = Rng::new(8);
-    let mut sound = 0;
-    for (seed, calls) in [(1, 5), (2, 40)] {
-        let book = arbitrary::book(&mut rng, calls);
-        sound += must(damage::every_byte(subject, seed, &book)).sound;
+    // One card with columns that are not used, and one without.
+    let devices = [
+        histories::small_device(&mut rng),
+        histories::largest_device(&mut rng),
+    ];
+    for device in devices {
+        let book = shapes::used_card(&mut rng, device, 60);
+        let tally = must(damage::every_byte(subject, 1, &book));
+        // A changed task number is another book's record.
+        assert!(tally.sound > 0, "{tally:?}");
     }
-    assert!(sound > 0, "a changed task number is another book");
 }
 
 fn damaged_records(subject: &dyn Calls) {
@@ -97,10 +101,10 @@ fn small_cards_searched(subject: &dyn Calls) {
 fn small_cards_placed(subject: &dyn Calls) {
     let fitting = must(small::placements(
         subject,
-        &small::devices(4, 2),
+        &small::devices(5, 2),
         &small::tasks(6),
     ));
-    assert!(fitting > 1000, "{fitting}");
+    assert!(fitting > 500, "{fitting}");
 }
 
 fn small_histories(subject: &dyn Calls) {
@@ -114,12 +118,19 @@ fn small_histories(subject: &dyn Calls) {
         (device(4, &[0]), vec![logic.to_vec(), tall.to_vec()]),
         (device(4, &[0]), vec![logic.to_vec(), comb.to_vec()]),
         (device(5, &[0, 1]), vec![mixed.to_vec(), memory.to_vec()]),
+        (device(3, &[0, 1]), vec![mixed.to_vec(), logic.to_vec()]),
+        (
+            device(5, &[0, 1]),
+            vec![mixed.to_vec(), memory.to_vec(), tall.to_vec()],
+        ),
     ];
+    let mut books = 0;
     for (device, tasks) in cards {
         let calls = small::alphabet(&device, &tasks, &[1, 2, 65_535]);
         let covered = must(small::every_book(subject, &device, &calls));
-        assert!(covered.books > 50, "{covered:?}");
+        books += covered.books;
     }
+    assert!(books > 300, "{books}");
     // Without passing over books that came before: a call might see more than its arguments.
     let device = device(2, &[0]);
     let calls = small::alphabet(&device, &[logic.to_vec()], &[1, 2]);
