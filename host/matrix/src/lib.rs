@@ -56,20 +56,20 @@ impl Matrix {
         let end = BLOCKS_AT + BLOCK_SIZE * usize::from(entry[3]);
         let task = Task::read(&entry[BLOCKS_AT..end]);
         for block in task.iter().flat_map(Task::blocks) {
-            let (low, high) = (bottom + block.bottom, bottom + block.top);
-            self.free[column + block.column][low as usize..high as usize].fill(false);
+            let (low, high) = (bottom + block.bottom(), bottom + block.top());
+            self.free[column + block.column()][low as usize..high as usize].fill(false);
         }
     }
 
     /// Whether a block, moved to a position, covers free cells of its kind only.
     fn block_fits(&self, block: &Block, column: usize, bottom: i32) -> bool {
-        let column = column + block.column;
-        let (low, high) = (bottom + block.bottom, bottom + block.top);
+        let column = column + block.column();
+        let (low, high) = (bottom + block.bottom(), bottom + block.top());
         column < self.columns
-            && self.kinds[column] == block.kind
+            && self.kinds[column] == block.kind()
             && low >= 0
             && high <= self.half_rows
-            && (low as u32).is_multiple_of(height(block.kind))
+            && (low as u32).is_multiple_of(height(block.kind()))
             && self.free[column][low as usize..high as usize]
                 .iter()
                 .all(|&free| free)
@@ -95,9 +95,9 @@ impl Matrix {
         let (mut n, mut s) = (0, 0);
         let mut previous = None;
         for block in task.blocks() {
-            let here = column + block.column;
-            let low = (bottom + block.bottom) as usize;
-            let high = (bottom + block.top) as usize;
+            let here = column + block.column();
+            let low = (bottom + block.bottom()) as usize;
+            let high = (bottom + block.top()) as usize;
             let (start, end) = self.run(here, low, high);
             // The piece between two blocks of one run is the one above the lower block.
             let is_first = previous != Some((here, start));
@@ -118,8 +118,8 @@ impl Matrix {
 
 /// The step of a task's ranges.
 fn step(task: &Task) -> i32 {
-    let some_logic = task.blocks().iter().any(|block| block.kind == 0);
-    let some_other = task.blocks().iter().any(|block| block.kind != 0);
+    let some_logic = task.blocks().iter().any(|block| block.kind() == 0);
+    let some_other = task.blocks().iter().any(|block| block.kind() != 0);
     match (some_logic, some_other) {
         (true, true) => 10,
         (true, false) => 2,

@@ -81,9 +81,9 @@ fn score(record: &Record, task: &Task, column: usize, bottom: i32) -> Option<Sco
     };
     let mut previous = None;
     for block in task.blocks() {
-        let low = (bottom + block.bottom) as u32;
+        let low = (bottom + block.bottom()) as u32;
         let high = low + block.size();
-        let here = column + block.column;
+        let here = column + block.column();
         let holder = column_holder(record, here, low, high)?;
         // A piece below is counted by the first block of the interval only:
         // between two blocks it is the piece above the lower one.

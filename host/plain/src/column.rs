@@ -1,6 +1,6 @@
 //! One column's intervals, in the 256 bytes that a record has for them.
 
-use crate::layout::{COLUMN_SIZE, INTERVAL_SIZE};
+use crate::layout::{COLUMN_SIZE, INTERVAL_SIZE, MAX_INTERVALS};
 
 /// A column's part of the record.
 pub type Part = [u8; COLUMN_SIZE];
@@ -26,29 +26,37 @@ pub fn intervals(part: &Part, count: usize) -> impl Iterator<Item = Interval> + 
     })
 }
 
-/// A new list of intervals, zeros after its end.
+/// A new list of intervals, as one word for each.
 struct Stream {
-    part: Part,
+    // One place more than there are intervals, for what is written and not kept.
+    words: [u32; MAX_INTERVALS + 1],
     count: usize,
 }
 
 impl Stream {
     fn new() -> Stream {
         Stream {
-            part: [0; COLUMN_SIZE],
+            words: [0; MAX_INTERVALS + 1],
             count: 0,
         }
     }
 
-    /// Appends an interval, unless it is empty.
+    /// Appends an interval, unless it is empty: always written, and counted if it is kept.
     #[inline]
     fn push(&mut self, bottom: u32, top: u32) {
-        if bottom < top {
-            let at = INTERVAL_SIZE * self.count;
-            let both = bottom | top << 16;
-            self.part[at..at + INTERVAL_SIZE].copy_from_slice(&both.to_le_bytes());
-            self.count += 1;
+        self.words[self.count] = bottom | top << 16;
+        self.count += usize::from(bottom < top);
+    }
+
+    /// Writes the list over a part, zeros after its end; answers its length.
+    #[inline]
+    fn copy_to(&mut self, part: &mut Part) -> usize {
+        // An empty interval may have been written last.
+        self.words[self.count] = 0;
+        for (bytes, word) in part.chunks_exact_mut(INTERVAL_SIZE).zip(&self.words) {
+            bytes.copy_from_slice(&word.to_le_bytes());
         }
+        self.count
     }
 }
 
@@ -56,11 +64,14 @@ impl Stream {
 pub fn cut(part: &mut Part, count: usize, bottom: u32, top: u32) -> usize {
     let mut stream = Stream::new();
     for old in intervals(part, count) {
-        stream.push(old.bottom, old.top.min(bottom));
-        stream.push(old.bottom.max(top), old.top);
+        if old.top <= bottom || top <= old.bottom {
+            stream.push(old.bottom, old.top);
+        } else {
+            stream.push(old.bottom, bottom);
+            stream.push(top, old.top);
+        }
     }
-    *part = stream.part;
-    stream.count
+    stream.copy_to(part)
 }
 
 /// Puts the half rows from bottom to top in, which were not free, and joins them
@@ -87,8 +98,7 @@ pub fn join(part: &mut Part, count: usize, bottom: u32, top: u32) -> usize {
     if waiting {
         stream.push(joined.bottom, joined.top);
     }
-    *part = stream.part;
-    stream.count
+    stream.copy_to(part)
 }
 
 /// The interval that holds all half rows from low to high, if one does.
@@ -108,7 +118,9 @@ mod tests {
         for &(bottom, top) in list {
             stream.push(bottom, top);
         }
-        (stream.part, stream.count)
+        let mut part = [0; COLUMN_SIZE];
+        let count = stream.copy_to(&mut part);
+        (part, count)
     }
 
     #[test]

@@ -77,7 +77,7 @@ impl Search {
         let Some((first, others)) = task.blocks().split_first() else {
             return now;
         };
-        now.restart(height(first.kind) as i32);
+        now.restart(height(first.kind()) as i32);
         for span in block_spans(record, first, column) {
             now.append(span);
         }
@@ -98,17 +98,17 @@ fn block_spans<'a>(
     block: &'a Block,
     column: usize,
 ) -> impl Iterator<Item = Span> + 'a {
-    column_intervals(record, column + block.column)
+    column_intervals(record, column + block.column())
         .filter(|interval| interval.top - interval.bottom >= block.size())
         .map(|interval| Span {
-            first: interval.bottom as i32 - block.bottom,
-            last: interval.top as i32 - block.top,
+            first: interval.bottom as i32 - block.bottom(),
+            last: interval.top as i32 - block.top(),
         })
 }
 
 /// Meets ranges with those of one more block, by one walk up both.
 fn meet_all(now: &Ranges, record: &Record, block: &Block, column: usize, next: &mut Ranges) {
-    let step = height(block.kind) as i32;
+    let step = height(block.kind()) as i32;
     next.restart(common_step(now.step, step));
     let mut left = now.spans();
     for right in block_spans(record, block, column) {

@@ -74,7 +74,7 @@ pub fn kinds_match(record: &Record, task: &Task, column: usize) -> bool {
         && task
             .blocks()
             .iter()
-            .all(|block| kind(record, column + block.column) == block.kind)
+            .all(|block| kind(record, column + block.column()) == block.kind())
 }
 
 /// Whether the task fits at a position, whatever the numbers are.
@@ -86,11 +86,11 @@ pub fn fits(record: &Record, task: &Task, column: u32, bottom: i32) -> bool {
     let column = column as usize;
     kinds_match(record, task, column)
         && task.blocks().iter().all(|block| {
-            let low = bottom + block.bottom;
-            let high = bottom + block.top;
+            let low = bottom + block.bottom();
+            let high = bottom + block.top();
             low >= 0
-                && (low as u32).is_multiple_of(height(block.kind))
-                && column_holder(record, column + block.column, low as u32, high as u32).is_some()
+                && (low as u32).is_multiple_of(height(block.kind()))
+                && column_holder(record, column + block.column(), low as u32, high as u32).is_some()
         })
 }
 
@@ -137,8 +137,8 @@ pub fn enter(record: &mut Record, index: usize, at: Place, task: &Task, bytes: &
     entry[BLOCKS_AT + bytes.len()..].fill(0);
     record[RUNNING_AT] += 1;
     for block in task.blocks() {
-        let low = at.bottom.wrapping_add_signed(block.bottom);
-        change(record, at.column + block.column, |part, count| {
+        let low = at.bottom.wrapping_add_signed(block.bottom());
+        change(record, at.column + block.column(), |part, count| {
             cut(part, count, low, low + block.size())
         });
     }
@@ -153,8 +153,8 @@ pub fn leave(record: &mut Record, index: usize) {
     // A sound record has well-formed tasks only, so none is never met.
     let task = Task::read(&entry[BLOCKS_AT..BLOCKS_AT + bytes]);
     for block in task.iter().flat_map(Task::blocks) {
-        let low = bottom.wrapping_add_signed(block.bottom);
-        change(record, column + block.column, |part, count| {
+        let low = bottom.wrapping_add_signed(block.bottom());
+        change(record, column + block.column(), |part, count| {
             join(part, count, low, low + block.size())
         });
     }

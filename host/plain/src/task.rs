@@ -1,18 +1,16 @@
 //! A task's blocks, read once from its bytes, with all that makes it well-formed tested on the way.
 
-use crate::layout::{height, word, BLOCK_SIZE, MAX_BLOCKS, MAX_COLUMNS, REACH};
+use crate::layout::{height, BLOCK_SIZE, MAX_BLOCKS, MAX_COLUMNS, REACH};
 
 /// A block; bottom and top are relative to the first block's bottom.
+///
+/// The fields are as narrow as the bytes they come from: a task is read for every running entry.
 #[derive(Clone, Copy, Debug)]
 pub struct Block {
-    /// The column, counted from the task's first.
-    pub column: usize,
-    /// The kind byte, 0 to 2.
-    pub kind: u8,
-    /// The lowest half row.
-    pub bottom: i32,
-    /// The half row above the highest.
-    pub top: i32,
+    column: u8,
+    kind: u8,
+    bottom: i16,
+    top: i16,
 }
 
 /// A well-formed task.
@@ -37,24 +35,22 @@ impl Block {
     };
 
     fn read(bytes: &[u8]) -> Block {
-        // Bottom and top are signed: the cast to 16 bits restores the sign.
         Block {
-            column: usize::from(bytes[0]),
+            column: bytes[0],
             kind: bytes[1],
-            bottom: i32::from(word(bytes, 2) as i16),
-            top: i32::from(word(bytes, 4) as i16),
+            bottom: i16::from_le_bytes([bytes[2], bytes[3]]),
+            top: i16::from_le_bytes([bytes[4], bytes[5]]),
         }
     }
 
     /// What well-formedness asks of one block alone.
     fn is_good(&self) -> bool {
-        let size = self.top - self.bottom;
-        self.column < MAX_COLUMNS
+        self.column() < MAX_COLUMNS
             && self.kind <= 2
-            && self.bottom >= -REACH
-            && self.top <= REACH
-            && size > 0
-            && (size as u32).is_multiple_of(height(self.kind))
+            && self.bottom() >= -REACH
+            && self.top() <= REACH
+            && self.bottom < self.top
+            && self.size().is_multiple_of(height(self.kind))
     }
 
     /// What well-formedness asks of two blocks in a row.
@@ -65,9 +61,29 @@ impl Block {
                 && self.bottom > previous.top)
     }
 
+    /// The column, counted from the task's first.
+    pub fn column(&self) -> usize {
+        usize::from(self.column)
+    }
+
+    /// The kind byte, 0 to 2.
+    pub fn kind(&self) -> u8 {
+        self.kind
+    }
+
+    /// The lowest half row.
+    pub fn bottom(&self) -> i32 {
+        i32::from(self.bottom)
+    }
+
+    /// The half row above the highest.
+    pub fn top(&self) -> i32 {
+        i32::from(self.top)
+    }
+
     /// The half rows that it covers.
     pub fn size(&self) -> u32 {
-        (self.top - self.bottom) as u32
+        (self.top() - self.bottom()) as u32
     }
 }
 
@@ -101,6 +117,6 @@ impl Task {
 
     /// The highest column of the task, counted from its first.
     pub fn last_column(&self) -> usize {
-        self.blocks().last().map_or(0, |block| block.column)
+        self.blocks().last().map_or(0, Block::column)
     }
 }
