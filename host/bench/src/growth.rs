@@ -1,8 +1,10 @@
 //! How the time of a call grows with the running tasks, with the blocks of a task and with the rows.
 
+use calls::SUBJECTS;
+
 use crate::loads::{busy, empty, mixed_probe, wide_probe, Load, Probe};
 use crate::measure::Effort;
-use crate::rows::{change_rows, search_rows, simple_rows, Row, SUBJECTS};
+use crate::rows::{change_rows, search_rows, simple_rows, Row};
 
 /// One measured point.
 pub struct Point {
@@ -65,7 +67,7 @@ pub fn measure(effort: Effort) -> Vec<Point> {
         let probe = wide_probe(blocks);
         all.extend(points("blocks", blocks, &load, &probe, effort));
     }
-    for rows in [8, 16, 32, 48, 64, 80, 96, 112, 128] {
+    for rows in [16, 24, 32, 48, 64, 80, 96, 112, 128] {
         let load = empty(subject, rows);
         all.extend(points("rows", rows as usize, &load, &probe, effort));
     }

@@ -21,9 +21,9 @@ use std::process::ExitCode;
 use std::time::Duration;
 use std::{env, fs, io};
 
+use calls::SUBJECTS;
 use loads::Load;
 use measure::Effort;
-use rows::SUBJECTS;
 
 /// What the command line asks for.
 struct Wish {

@@ -3,15 +3,12 @@
 use std::cell::RefCell;
 use std::hint::black_box;
 
-use calls::Calls;
+use calls::{Calls, SUBJECTS};
 use oracle::layout::RECORD_BYTES;
 use oracle::listing::OUTPUT_BYTES;
 
 use crate::loads::{Load, Probe, PROBE_NUMBER};
 use crate::measure::{half, medians, whole, Effort, Work};
-
-/// The implementations, the one in question first. The proved library goes in front of these.
-pub const SUBJECTS: [&dyn Calls; 1] = [&calls::Plain];
 
 /// The times of one call on one load, in ns.
 pub struct Row {

@@ -1,6 +1,8 @@
 //! The Markdown tables.
 
-use crate::rows::{Row, SUBJECTS};
+use calls::SUBJECTS;
+
+use crate::rows::Row;
 
 /// A time, without digits that say nothing.
 fn ns(time: f64) -> String {

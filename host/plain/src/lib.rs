@@ -4,7 +4,7 @@
 //! engineer writes them who need not prove anything. Its use is to measure the
 //! proved library against it, and to try out the tests and the benchmark.
 //!
-//! Where to find what: [`layout`] the constants, [`column`] intervals cut and
+//! Where to find what: [`layout`] the constants, [`column`](mod@column) intervals cut and
 //! joined, [`task`](mod@task) blocks, [`record`] the record and its check,
 //! [`listing`] and [`choice`] the searches, [`calls`] the calls themselves.
 

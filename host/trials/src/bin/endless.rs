@@ -1,7 +1,9 @@
 //! Runs random histories without end and compares each call with the oracle.
 //!
-//!     endless [plain|oracle] [seed] [calls]
+//!     endless [IMPLEMENTATION] [SEED] [CALLS]
 //!
+//! The implementation is `plain` or `proved`, by default the first of [`SUBJECTS`];
+//! a history has up to so many calls, by default 2,000.
 //! Each history has a seed of its own, counted up from the first, so that one
 //! that differs is named by its seed and can be run again by itself.
 
@@ -10,11 +12,8 @@ use std::io::{self, Write};
 use std::process::ExitCode;
 use std::time::{Duration, Instant};
 
-use calls::Calls;
+use calls::{Calls, SUBJECTS};
 use trials::histories::{add, run_seed, Answers};
-
-/// The implementations by name.
-const SUBJECTS: [&dyn Calls; 2] = [&calls::Plain, &calls::Oracle];
 
 /// What the command line asks for.
 struct Wish {
@@ -26,12 +25,9 @@ struct Wish {
 /// Reads the command line; none where it is not of the form above.
 fn wish() -> Option<Wish> {
     let mut words = env::args().skip(1).peekable();
-    let named = words.peek().and_then(|word| {
-        SUBJECTS
-            .iter()
-            .copied()
-            .find(|subject| subject.name() == word)
-    });
+    let named = words
+        .peek()
+        .and_then(|word| SUBJECTS.into_iter().find(|subject| subject.name() == word));
     if named.is_some() {
         words.next();
     }
@@ -59,7 +55,7 @@ fn report(wish: &Wish, seed: u64, answers: &Answers, since: Instant) {
 
 fn main() -> ExitCode {
     let Some(wish) = wish() else {
-        eprintln!("usage: endless [plain|oracle] [seed] [calls]");
+        eprintln!("usage: endless [IMPLEMENTATION] [SEED] [CALLS]");
         return ExitCode::from(2);
     };
     let start = Instant::now();
