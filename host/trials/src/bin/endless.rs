@@ -7,6 +7,9 @@
 //! Each history has a seed of its own, counted up from the first, so that one
 //! that differs is named by its seed and can be run again by itself.
 
+#![deny(missing_docs)]
+#![forbid(unsafe_code)]
+
 use std::env;
 use std::io::{self, Write};
 use std::process::ExitCode;
