@@ -2,12 +2,12 @@
 // Only the lowest and the highest bottom of each stretch in which no block leaves its free interval are scored: between them s stays the same
 // and n is no less (model/specs/Laws/Ends.antt).
 ghost use mathlib.Core.Path.{_≡_};
-ghost use Prim.Native.Nat.{suc, _+_, _≤_, _<_};
+ghost use Prim.Native.Nat.{suc, _≤_, _<_};
 ghost use mathlib.Core.Bool.{true};
 ghost use lib.Dec.{ltb};
 ghost use Rattle.runs.specs.Intervals.{interval, Holds};
 ghost use Rattle.model.specs.Limits.{max-columns, words};
-ghost use Rattle.model.specs.Columns.{columns, half-rows};
+ghost use Rattle.model.specs.Columns.{half-rows};
 ghost use Rattle.model.specs.Tasks.{blocks, step as step-of};
 ghost use Rattle.model.specs.Book.{placed, fits, intervals};
 ghost use Rattle.model.specs.Choice.{holder, judge};
