@@ -105,12 +105,15 @@ piece-front a b R = go (ltb a b)
     go true = refl
     go false = refl
 
-pub cut-next : {p : List ℕ} {i n : ℕ} {x : Read} (b t : ℕ) {lo hi : ℕ} → i < n → ReadAt p i x → hi ≡ min (x .top) b → lo ≡ max (x .bottom) t
-    → subtract b t (listed-from p i (n - i)) ≡ piece (x .bottom) hi [] ++ (piece lo (x .top) [] ++ subtract b t (listed-from p (i + 1) (n - (i + 1))))
+pub cut-next : {G : List Interval} {p o : List ℕ} {i n c : ℕ} {x : Read} (b t : ℕ) {lo hi : ℕ} → Writing G o c (subtract b t (listed-from p i (n - i)))
+    → i < n → ReadAt p i x → hi ≡ min (x .top) b → lo ≡ max (x .bottom) t
+    → Writing G o c (piece (x .bottom) hi [] ++ (piece lo (x .top) [] ++ subtract b t (listed-from p (i + 1) (n - (i + 1)))))
 unfolding subtract
-cut-next {p} {i} {n} {x} b t {lo} {hi} q r e f =
+cut-next {p = p} {i = i} {n = n} {x = x} b t {lo} {hi} w q r e f =
     let R = subtract b t (listed-from p (i + 1) (n - (i + 1))) in
-    rw (listed-next q r, ← e, ← f) (piece-front (x .bottom) hi (piece lo (x .top) R) ∙ ap (λ (l : List Interval). piece (x .bottom) hi [] ++ l) (piece-front lo (x .top) R))
+    let two : subtract b t (listed-from p i (n - i)) ≡ piece (x .bottom) hi [] ++ (piece lo (x .top) [] ++ R) =
+    rw (listed-next q r, ← e, ← f) (piece-front (x .bottom) hi (piece lo (x .top) R) ∙ ap (λ (l : List Interval). piece (x .bottom) hi [] ++ l) (piece-front lo (x .top) R)) in
+    rw two at w
 
 pub cut-start : {o : List ℕ} (b t : ℕ) (p : List ℕ) (n : ℕ) → o ≡ column-part [] → Writing (subtract b t (listed-in p n)) o 0 (subtract b t (listed-from p 0 (n - 0)))
 cut-start b t p n e = rw (← listed-all p n) (start e)

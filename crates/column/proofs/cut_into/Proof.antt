@@ -30,9 +30,8 @@ lower-requires c κs = search needs
 keep-requires : tie.Need-keep-requires Inv-loop μ-loop
 keep-requires c κs =
     let g = c .before .before in
-    let w = g .before .before .loop .inv .1 in
-    let w′ = rw (cut-next _ _ (g .before .loop-test .taken) (g .read .ensures) (c .lower .ensures) refl) at w in
-    (size w, omega arith, keep-room _ _ _ w′ (g .before .before .before .before .before .pre .1 .room))
+    let w = cut-next _ _ (g .before .before .loop .inv .1) (g .before .loop-test .taken) (g .read .ensures) (c .lower .ensures) refl in
+    (size w, omega arith, keep-room _ _ _ w (g .before .before .before .before .before .pre .1 .room))
 
 higher-requires : tie.Need-higher-requires Inv-loop μ-loop
 higher-requires c κs = search needs
@@ -40,7 +39,7 @@ higher-requires c κs = search needs
 keep-requires-2 : tie.Need-keep-requires-2 Inv-loop μ-loop
 keep-requires-2 c κs =
     let g = c .before .before .before .before .before .before .before in
-    let w = rw (cut-next _ _ (g .before .loop-test .taken) (g .read .ensures) (c .before .before .before .before .before .lower .ensures) (c .higher .ensures)) at (g .before .before .loop .inv .1) in
+    let w = cut-next _ _ (g .before .before .loop .inv .1) (g .before .loop-test .taken) (g .read .ensures) (c .before .before .before .before .before .lower .ensures) (c .higher .ensures) in
     let w′ = on w (c .before .before .before .before .keep .ensures) in
     (size w′, omega arith, keep-room _ _ _ w′ (g .before .before .before .before .before .pre .1 .room))
 
@@ -53,7 +52,7 @@ loop-less c = search needs
 loop-again : tie.Need-loop-again Inv-loop μ-loop
 loop-again c =
     let g = c .before .before .before .before .before .before .before .before .before .before in
-    let w = rw (cut-next _ _ (g .before .loop-test .taken) (g .read .ensures) (c .before .before .before .before .before .before .before .before .lower .ensures) (c .before .before .before .higher .ensures)) at (g .before .before .loop .inv .1) in
+    let w = cut-next _ _ (g .before .before .loop .inv .1) (g .before .loop-test .taken) (g .read .ensures) (c .before .before .before .before .before .before .before .before .lower .ensures) (c .before .before .before .higher .ensures) in
     (omega arith, on (on w (c .before .before .before .before .before .before .before .keep .ensures)) (c .before .before .keep2 .ensures))
 
 same-length : tie.Need-same-length Inv-loop μ-loop
