@@ -15,19 +15,30 @@ ghost use Rattle.runs.specs.Runs.{run, push};
 ghost use Rattle.runs.specs.Meet.{Step, Lcm};
 ghost use Rattle.task.specs.Blocks.{seen};
 ghost use Rattle.words.specs.Words.{Widened};
-ghost use Rattle.model.specs.Limits.{reach, max-rows, max-columns, max-intervals, record-size};
+ghost use Rattle.model.specs.Limits.{reach, max-rows, max-columns, max-intervals, record-size, range-size, list-room};
 ghost use Rattle.model.specs.Columns.{height};
 ghost use Rattle.model.specs.Kinds.{number-of};
 ghost use Rattle.model.specs.Sound.{sound};
+ghost use Rattle.model.specs.Listing.{range-of};
+ghost use Rattle.model.specs.Record.{device-of, book-of};
+ghost use Rattle.model.specs.Calls.{range-bytes};
+ghost use Rattle.model.specs.Laws.Parts.{splice};
 ghost use Rattle.listing.specs.Bottoms.{lift, lowered, range-in};
 ghost use Rattle.listing.specs.Arrays.{max-runs, read, Room, Lowerable, Pushable, Puttable, Joined, IntervalAt, Meetable, Met as MetBlock};
 ghost use Rattle.listing.specs.Columns.{Given, OfKind, OnAll, Liftable, Startable, Started, LiftedTo, Nextable, Lifted, Ranged};
+ghost use Rattle.listing.specs.Output.{Writable, AllWritable, column-bytes, Answers};
+
+// What a listing answers: how many ranges it wrote, or that no position fits.
+pub enum Listed {
+    Ranges(u32),
+    NoPosition,
+}
 
 // Bottoms are kept this much above their value, so that a block far above the first gives no negative number.
 const LIFT: u32 = 512;
 
 // How many runs a list has, and their step.
-struct List {
+struct Runs {
     count: usize,
     step: u32,
 }
@@ -146,7 +157,7 @@ fn bottoms_in(b: Block, i: Interval) -> Range
 }
 
 // Of the bottoms of a list, those at which a block of device column c stands free. Run i meets interval j, and the one that ends first is passed.
-fn meet_block(record: &[u8], c: usize, b: Block, lows: &[u32], highs: &[u32], list: List, firsts: &mut [u32], lasts: &mut [u32]) -> usize
+fn meet_block(record: &[u8], c: usize, b: Block, lows: &[u32], highs: &[u32], list: Runs, firsts: &mut [u32], lasts: &mut [u32]) -> usize
     requires { ⌜ Meetable (now «record») c (seen b) (now lows) (now highs) (list .count) (list .step) × Room (now firsts) (now lasts) ⌝ }
     ensures { λ k. ⌜ MetBlock (now («record» .entry)) c (seen b) (list .step) (read (list .count) (now (lows .entry)) (now (highs .entry))) (read k (now (firsts .exit)) (now (lasts .exit))) ⌝ }
 {
@@ -206,28 +217,28 @@ fn on_columns(record: &[u8], task: &[u8], p: usize) -> bool
 }
 
 // All half rows, lifted, on the grid of the first block.
-fn start_list(task: &[u8], firsts: &mut [u32], lasts: &mut [u32]) -> List
+fn start_list(task: &[u8], firsts: &mut [u32], lasts: &mut [u32]) -> Runs
     requires { ⌜ Startable (now task) (now firsts) (now lasts) ⌝ }
     ensures { λ r. ⌜ Started (now (task .entry)) (now (firsts .exit)) (now (lasts .exit)) (r .count) (r .step) ⌝ }
 {
     let step = task::block_at(task, 0).height();
     firsts[0] = LIFT;
     lasts[0] = LIFT + (2 * model::MAX_ROWS - 1) / step * step;
-    List {
+    Runs {
         count: 1,
         step: step,
     }
 }
 
 // Of a list of lifted bottoms in column p, those at which block k stands free too. The list is copied aside to be read.
-fn meet_next(record: &[u8], task: &[u8], p: usize, k: usize, list: List, firsts: &mut [u32], lasts: &mut [u32], lows: &mut [u32], highs: &mut [u32]) -> List
+fn meet_next(record: &[u8], task: &[u8], p: usize, k: usize, list: Runs, firsts: &mut [u32], lasts: &mut [u32], lows: &mut [u32], highs: &mut [u32]) -> Runs
     requires { ⌜ Nextable (now «record») (now task) p k (list .count) (list .step) (now firsts) (now lasts) × Room (now lows) (now highs) ⌝ }
     ensures { λ r. ⌜ LiftedTo (now («record» .entry)) (now (task .entry)) p (k + 1) (r .count) (r .step) (now (firsts .exit)) (now (lasts .exit)) ⌝ }
 {
     let b = task::block_at(task, k);
     copy_runs(firsts, lasts, list.count, lows, highs);
     let n = meet_block(record, p + b.column as usize, b, lows, highs, list, firsts, lasts);
-    List {
+    Runs {
         count: n,
         step: common_step(list.step, b.height()),
     }
@@ -261,4 +272,51 @@ pub fn column_ranges(record: &[u8], task: &[u8], p: usize, firsts: &mut [u32], l
     let n = lifted_bottoms(record, task, p, firsts, lasts);
     lower(firsts, lasts, n);
     n
+}
+
+// Writes a range as number n of the output.
+fn write_range(output: &mut [u8], n: usize, column: usize, step: u32, first: u32, last: u32)
+    requires { ⌜ Writable (length (now output)) n column step first last ⌝ }
+    ensures { λ _. ⌜ now (output .exit) ≡ splice (now (output .entry)) (range-size * n) range-size (range-bytes (range-of column step (run first last))) ⌝ }
+{
+    let at = model::RANGE_SIZE * n;
+    output[at] = column as u8;
+    output[at + 1] = step as u8;
+    words::put16(output, at + 2, first);
+    words::put16(output, at + 4, last);
+}
+
+// Writes the ranges of a column as numbers n and up of the output.
+fn write_ranges(output: &mut [u8], n: usize, column: usize, step: u32, firsts: &[u32], lasts: &[u32], count: usize)
+    requires { ⌜ AllWritable (length (now output)) n column step (now firsts) (now lasts) count ⌝ }
+    ensures { λ _. ⌜ now (output .exit) ≡ splice (now (output .entry)) (range-size * n) (range-size * count) (column-bytes column step (read count (now (firsts .entry)) (now (lasts .entry)))) ⌝ }
+{
+    let mut i: usize = 0;
+    while i < count {
+        write_range(output, n + i, column, step, firsts[i], lasts[i]);
+        i += 1;
+    }
+}
+
+// Writes all ranges of the task, by rising column.
+pub fn list(record: &[u8], task: &[u8], output: &mut [u8]) -> Listed
+    requires { ⌜ Given (now «record») (now task) × (list-room ≤ length (now output)) ⌝ }
+    ensures { λ a. ⌜ Answers a (device-of (now («record» .entry))) (book-of (now («record» .entry))) (now (task .entry)) (now (output .entry)) (now (output .exit)) ⌝ }
+{
+    let mut firsts = [0u32; 64];
+    let mut lasts = [0u32; 64];
+    let columns = byte(record, model::COLUMNS_AT);
+    let step = task::step(task);
+    let mut n: usize = 0;
+    let mut p: usize = 0;
+    while p < columns {
+        let count = column_ranges(record, task, p, &mut firsts, &mut lasts);
+        write_ranges(output, n, p, step, &firsts, &lasts, count);
+        n += count;
+        p += 1;
+    }
+    if n == 0 {
+        return Listed::NoPosition;
+    }
+    Listed::Ranges(n as u32)
 }

@@ -35,7 +35,7 @@ use Rattle.model.specs.Laws.Sound.{columns-said, listed-said, sound-length, sou
 use Rattle.task.specs.Blocks.{seen, Same}
 use Rattle.task.specs.Laws.{same-seen, block-within}
 use Rattle.task.specs.declared.Block.{Block}
-use Rattle.listing.specs.Bottoms.{lift, lowered, bottoms, Common, Listed}
+use Rattle.listing.specs.Bottoms.{lift, lowered, bottoms, Common, Standing}
 use Rattle.listing.specs.Arrays.{max-runs, read, Room, Lowerable, bottom-at, top-at, Meetable, Met}
 use Rattle.listing.specs.Columns.{Given, OfKind, On, OnAll, Liftable, Startable, Started, LiftedTo, Nextable, Lifted, column-runs, Ranged}
 use Rattle.listing.specs.Laws.Bottoms.{whole-cells}
@@ -73,7 +73,7 @@ module _ (r : List ℕ) (s : sound r ≡ true) where
 -- ---- the blocks of the task
 
 module _ (r t : List ℕ) (g : Given r t) where
-  some-blocks : 1 ≤ blocks t
+  pub some-blocks : 1 ≤ blocks t
   some-blocks = sized-to t (g .sized) .some-blocks
 
   pub few-blocks : blocks t ≤ max-blocks
@@ -119,7 +119,7 @@ start-lifted r t F T p n s g = record { few = omega (arith, g .count-is); listed
 -- ---- one block more
 
 -- in steps of 2 or more there are few runs
-few-listed : (r t : List ℕ) (p k s n : ℕ) (F T : List ℕ) → Listed (device-of r) (book-of r) t p k s (read n F T) → n ≤ max-runs
+few-listed : (r t : List ℕ) (p k s n : ℕ) (F T : List ℕ) → Standing (device-of r) (book-of r) t p k s (read n F T) → n ≤ max-runs
 few-listed r t p k s n F T g = omega (arith, length-read n F T, few-runs s (read n F T) (two (g .common .all 0 (omega arith))) (g .canon) (listed-bound (device-of r) (book-of r) t p k s (read n F T) g))
   where
     two : Multiple (height (block t 0 .kind)) s → 2 ≤ s
