@@ -1,11 +1,10 @@
 // The ranges of a task on a sound record: those of one column, and the whole listing.
 // A list of runs stands in two arrays, one of their firsts and one of their lasts. Of a column, the list starts with all half rows, and is met with the
 // free intervals of one block after the other.
+use model::Kind;
 use runs::Met;
 use runs::Range;
-use model::Kind;
 use task::Block;
-
 ghost use mathlib.Core.Path.{_≡_};
 ghost use mathlib.Core.Bool.{true};
 ghost use mathlib.Core.List.{map};
@@ -157,7 +156,16 @@ fn bottoms_in(b: Block, i: Interval) -> Range
 }
 
 // Of the bottoms of a list, those at which a block of device column c stands free. Run i meets interval j, and the one that ends first is passed.
-fn meet_block(record: &[u8], c: usize, b: Block, lows: &[u32], highs: &[u32], list: Runs, firsts: &mut [u32], lasts: &mut [u32]) -> usize
+fn meet_block(
+    record: &[u8],
+    c: usize,
+    b: Block,
+    lows: &[u32],
+    highs: &[u32],
+    list: Runs,
+    firsts: &mut [u32],
+    lasts: &mut [u32],
+) -> usize
     requires { ⌜ Meetable (now «record») c (seen b) (now lows) (now highs) (list .count) (list .step) × Room (now firsts) (now lasts) ⌝ }
     ensures { λ k. ⌜ MetBlock (now («record» .entry)) c (seen b) (list .step) (read (list .count) (now (lows .entry)) (now (highs .entry))) (read k (now (firsts .exit)) (now (lasts .exit))) ⌝ }
 {
@@ -231,13 +239,32 @@ fn start_list(task: &[u8], firsts: &mut [u32], lasts: &mut [u32]) -> Runs
 }
 
 // Of a list of lifted bottoms in column p, those at which block k stands free too. The list is copied aside to be read.
-fn meet_next(record: &[u8], task: &[u8], p: usize, k: usize, list: Runs, firsts: &mut [u32], lasts: &mut [u32], lows: &mut [u32], highs: &mut [u32]) -> Runs
+fn meet_next(
+    record: &[u8],
+    task: &[u8],
+    p: usize,
+    k: usize,
+    list: Runs,
+    firsts: &mut [u32],
+    lasts: &mut [u32],
+    lows: &mut [u32],
+    highs: &mut [u32],
+) -> Runs
     requires { ⌜ Nextable (now «record») (now task) p k (list .count) (list .step) (now firsts) (now lasts) × Room (now lows) (now highs) ⌝ }
     ensures { λ r. ⌜ LiftedTo (now («record» .entry)) (now (task .entry)) p (k + 1) (r .count) (r .step) (now (firsts .exit)) (now (lasts .exit)) ⌝ }
 {
     let b = task::block_at(task, k);
     copy_runs(firsts, lasts, list.count, lows, highs);
-    let n = meet_block(record, p + b.column as usize, b, lows, highs, list, firsts, lasts);
+    let n = meet_block(
+        record,
+        p + b.column as usize,
+        b,
+        lows,
+        highs,
+        list,
+        firsts,
+        lasts,
+    );
     Runs {
         count: n,
         step: common_step(list.step, b.height()),
@@ -245,7 +272,13 @@ fn meet_next(record: &[u8], task: &[u8], p: usize, k: usize, list: Runs, firsts:
 }
 
 // The lifted bottoms of the task in column p: all half rows, met with one block after the other.
-fn lifted_bottoms(record: &[u8], task: &[u8], p: usize, firsts: &mut [u32], lasts: &mut [u32]) -> usize
+fn lifted_bottoms(
+    record: &[u8],
+    task: &[u8],
+    p: usize,
+    firsts: &mut [u32],
+    lasts: &mut [u32],
+) -> usize
     requires { ⌜ Liftable (now «record») (now task) p × Room (now firsts) (now lasts) ⌝ }
     ensures { λ n. ⌜ Lifted (now («record» .entry)) (now (task .entry)) p (now (firsts .exit)) (now (lasts .exit)) n ⌝ }
 {
@@ -255,14 +288,30 @@ fn lifted_bottoms(record: &[u8], task: &[u8], p: usize, firsts: &mut [u32], last
     let mut list = start_list(task, firsts, lasts);
     let mut k: usize = 0;
     while k < count {
-        list = meet_next(record, task, p, k, list, firsts, lasts, &mut lows, &mut highs);
+        list = meet_next(
+            record,
+            task,
+            p,
+            k,
+            list,
+            firsts,
+            lasts,
+            &mut lows,
+            &mut highs,
+        );
         k += 1;
     }
     list.count
 }
 
 // The ranges of the task in column p.
-pub fn column_ranges(record: &[u8], task: &[u8], p: usize, firsts: &mut [u32], lasts: &mut [u32]) -> usize
+pub fn column_ranges(
+    record: &[u8],
+    task: &[u8],
+    p: usize,
+    firsts: &mut [u32],
+    lasts: &mut [u32],
+) -> usize
     requires { ⌜ Given (now «record») (now task) × Room (now firsts) (now lasts) × (p < max-columns) ⌝ }
     ensures { λ n. ⌜ Ranged (now («record» .entry)) (now (task .entry)) p (now (firsts .exit)) (now (lasts .exit)) n ⌝ }
 {
@@ -287,7 +336,15 @@ fn write_range(output: &mut [u8], n: usize, column: usize, step: u32, first: u32
 }
 
 // Writes the ranges of a column as numbers n and up of the output.
-fn write_ranges(output: &mut [u8], n: usize, column: usize, step: u32, firsts: &[u32], lasts: &[u32], count: usize)
+fn write_ranges(
+    output: &mut [u8],
+    n: usize,
+    column: usize,
+    step: u32,
+    firsts: &[u32],
+    lasts: &[u32],
+    count: usize,
+)
     requires { ⌜ AllWritable (length (now output)) n column step (now firsts) (now lasts) count ⌝ }
     ensures { λ _. ⌜ now (output .exit) ≡ splice (now (output .entry)) (range-size * n) (range-size * count) (column-bytes column step (read count (now (firsts .entry)) (now (lasts .entry)))) ⌝ }
 {

@@ -29,11 +29,12 @@ start-list-requires c κs =
 loop-holds : tie.Need-loop-holds Inv-loop μ-loop
 loop-holds c =
     let s = c .before .before .before .before .before .before .before .before .before .before .before in
-    let z = c .before .before .before .before .start-list in
-    (start-lifted (s .args .«record» .now) (s .args .task .now) (z .last .1 .0) (z .last .1 .1 .0) (s .args .p) (z .result .count) (z .result .step) (z .ensures),
-    record { firsts = z .kept .1 .0 ∙ s .pre .1 .firsts; lasts = z .kept .1 .1 .0 ∙ s .pre .1 .lasts },
-    record { firsts = refl; lasts = refl },
-    omega arith)
+    let z = c .before .before .before .before .start-list in (
+      start-lifted (s .args .«record» .now) (s .args .task .now) (z .last .1 .0) (z .last .1 .1 .0) (s .args .p) (z .result .count) (z .result .step) (z .ensures),
+      record { firsts = z .kept .1 .0 ∙ s .pre .1 .firsts; lasts = z .kept .1 .1 .0 ∙ s .pre .1 .lasts },
+      record { firsts = refl; lasts = refl },
+      omega arith,
+    )
 
 slice-aggregate-meet-next : tie.Need-slice-aggregate-meet-next Inv-loop μ-loop
 slice-aggregate-meet-next c = sym (c .before .before .before .before .loop .inv .2 .firsts)
@@ -59,11 +60,12 @@ loop-again : tie.Need-loop-again Inv-loop μ-loop
 unfolding blocks
 loop-again c =
     let a = c .before .before .before .before .before .before .before .before .before .before .before .before in
-    let z = c .before .before .before .before .before .before .meet-next in
-    (z .ensures,
-    record { firsts = z .kept .1 .1 .1 .1 .1 .0 ∙ a .loop .inv .1 .firsts; lasts = z .kept .1 .1 .1 .1 .1 .1 .0 ∙ a .loop .inv .1 .lasts },
-    record { firsts = z .kept .1 .1 .1 .1 .1 .1 .1 .0 ∙ a .loop .inv .2 .firsts; lasts = z .kept .1 .1 .1 .1 .1 .1 .1 .1 .0 ∙ a .loop .inv .2 .lasts },
-    omega (arith, c .before .before .before .before .before .before .before .before .before .before .before .loop-test .taken))
+    let z = c .before .before .before .before .before .before .meet-next in (
+      z .ensures,
+      record { firsts = z .kept .1 .1 .1 .1 .1 .0 ∙ a .loop .inv .1 .firsts; lasts = z .kept .1 .1 .1 .1 .1 .1 .0 ∙ a .loop .inv .1 .lasts },
+      record { firsts = z .kept .1 .1 .1 .1 .1 .1 .1 .0 ∙ a .loop .inv .2 .firsts; lasts = z .kept .1 .1 .1 .1 .1 .1 .1 .1 .0 ∙ a .loop .inv .2 .lasts },
+      omega (arith, c .before .before .before .before .before .before .before .before .before .before .before .loop-test .taken),
+    )
 
 same-length : tie.Need-same-length Inv-loop μ-loop
 same-length c = omega (arith, c .before .loop .inv .1 .firsts, c .before .before .before .before .before .before .before .before .before .before .before .before .before .pre .1 .firsts)

@@ -89,11 +89,12 @@ loop-less c = omega (arith, ltb-true (c .before .before .before .before .before 
 loop-again : tie.Need-loop-again Inv-loop μ-loop
 loop-again c =
     let s = c .before .before .before .before .before .before .before .before .before .before .before .before .before .before in
-    let a = c .before .before .before .before .before .before .before in
-    (a .loop .inv .0,
-    walking-short (s .args .«record» .now) (s .args .c) (seen (s .args .b)) (s .args .lows .now) (s .args .highs .now) (s .args .list .count) (s .args .list .step) (given s)
-    (a .loop .i) (a .loop .j) (read (a .loop .n) (a .loop .firsts) (a .loop .lasts)) (within (c .before .before .before .before))
-    (omega (arith, c .if3 .taken, c .before .before .before .interval-at .ensures .bottom-is, c .before .before .before .interval-at .ensures .top-is)) (a .loop .inv .1))
+    let a = c .before .before .before .before .before .before .before in (
+      a .loop .inv .0,
+      walking-short (s .args .«record» .now) (s .args .c) (seen (s .args .b)) (s .args .lows .now) (s .args .highs .now) (s .args .list .count) (s .args .list .step) (given s)
+          (a .loop .i) (a .loop .j) (read (a .loop .n) (a .loop .firsts) (a .loop .lasts)) (within (c .before .before .before .before))
+          (omega (arith, c .if3 .taken, c .before .before .before .interval-at .ensures .bottom-is, c .before .before .before .interval-at .ensures .top-is)) (a .loop .inv .1),
+    )
 
 mul-t22 : tie.Need-mul-t22 Inv-loop μ-loop
 mul-t22 c = omega (arith, c .before .before .before .before .before .if1 .taken, given (c .before .before .before .before .before .before .before .before .before .before .before .before .before .before) .count)
@@ -129,11 +130,12 @@ loop-less-2 c = omega (arith, c .before .before .before .before .before .before 
 loop-again-2 : tie.Need-loop-again-2 Inv-loop μ-loop
 loop-again-2 c =
     let s = c .before .before .before .before .before .before .before .before .before .before .before .before .before .before .before .before .before .before .before .before .before .before .before .before .before .before .before in
-    let a = c .before .before .before .before .before .before .before .before .before .before .before .before .before .before .before .before .before .before .before .before in
-    (room (c .before .before .before .before .before .before .before),
-    walking-left (s .args .«record» .now) (s .args .c) (seen (s .args .b)) (s .args .lows .now) (s .args .highs .now) (s .args .list .count) (s .args .list .step) (given s)
-    (a .loop .i) (a .loop .j) (c .before .before .before .before .before .before .before .before .before .before .before .before .before .before .before .before .before .before .if1 .taken) (within (c .before .before .before .before .before .before .before .before .before .before .before .before .before .before .before .before .before)) (tall (c .before .before .before .before .before .before .before .before .before .before .before .before .before)) (c .before .before .before .before .before .before .before .before .before .before .bottoms-in .result) (range-is (c .before .before .before .before .before .before .before .before .before .before))
-    (read (a .loop .n) (a .loop .firsts) (a .loop .lasts)) _ (a .loop .inv .1) (c .before .before .before .before .before .before .before .put .ensures) (c .if4 .taken))
+    let a = c .before .before .before .before .before .before .before .before .before .before .before .before .before .before .before .before .before .before .before .before in (
+      room (c .before .before .before .before .before .before .before),
+      walking-left (s .args .«record» .now) (s .args .c) (seen (s .args .b)) (s .args .lows .now) (s .args .highs .now) (s .args .list .count) (s .args .list .step) (given s)
+          (a .loop .i) (a .loop .j) (c .before .before .before .before .before .before .before .before .before .before .before .before .before .before .before .before .before .before .if1 .taken) (within (c .before .before .before .before .before .before .before .before .before .before .before .before .before .before .before .before .before)) (tall (c .before .before .before .before .before .before .before .before .before .before .before .before .before)) (c .before .before .before .before .before .before .before .before .before .before .bottoms-in .result) (range-is (c .before .before .before .before .before .before .before .before .before .before))
+          (read (a .loop .n) (a .loop .firsts) (a .loop .lasts)) _ (a .loop .inv .1) (c .before .before .before .before .before .before .before .put .ensures) (c .if4 .taken),
+    )
 
 add-j-2 : tie.Need-add-j-2 Inv-loop μ-loop
 add-j-2 c = omega (arith, within (c .before .before .before .before .before .before .before .before .before .before .before .before .before .before .before .before .before), given (c .before .before .before .before .before .before .before .before .before .before .before .before .before .before .before .before .before .before .before .before .before .before .before .before .before .before .before) .few)
@@ -144,11 +146,12 @@ loop-less-3 c = omega (arith, ltb-true (c .before .before .before .before .befor
 loop-again-3 : tie.Need-loop-again-3 Inv-loop μ-loop
 loop-again-3 c =
     let s = c .before .before .before .before .before .before .before .before .before .before .before .before .before .before .before .before .before .before .before .before .before .before .before .before .before .before .before in
-    let a = c .before .before .before .before .before .before .before .before .before .before .before .before .before .before .before .before .before .before .before .before in
-    (room (c .before .before .before .before .before .before .before),
-    walking-right (s .args .«record» .now) (s .args .c) (seen (s .args .b)) (s .args .lows .now) (s .args .highs .now) (s .args .list .count) (s .args .list .step) (given s)
-    (a .loop .i) (a .loop .j) (c .before .before .before .before .before .before .before .before .before .before .before .before .before .before .before .before .before .before .if1 .taken) (within (c .before .before .before .before .before .before .before .before .before .before .before .before .before .before .before .before .before)) (tall (c .before .before .before .before .before .before .before .before .before .before .before .before .before)) (c .before .before .before .before .before .before .before .before .before .before .bottoms-in .result) (range-is (c .before .before .before .before .before .before .before .before .before .before))
-    (read (a .loop .n) (a .loop .firsts) (a .loop .lasts)) _ (a .loop .inv .1) (c .before .before .before .before .before .before .before .put .ensures) (c .if4 .left))
+    let a = c .before .before .before .before .before .before .before .before .before .before .before .before .before .before .before .before .before .before .before .before in (
+      room (c .before .before .before .before .before .before .before),
+      walking-right (s .args .«record» .now) (s .args .c) (seen (s .args .b)) (s .args .lows .now) (s .args .highs .now) (s .args .list .count) (s .args .list .step) (given s)
+          (a .loop .i) (a .loop .j) (c .before .before .before .before .before .before .before .before .before .before .before .before .before .before .before .before .before .before .if1 .taken) (within (c .before .before .before .before .before .before .before .before .before .before .before .before .before .before .before .before .before)) (tall (c .before .before .before .before .before .before .before .before .before .before .before .before .before)) (c .before .before .before .before .before .before .before .before .before .before .bottoms-in .result) (range-is (c .before .before .before .before .before .before .before .before .before .before))
+          (read (a .loop .n) (a .loop .firsts) (a .loop .lasts)) _ (a .loop .inv .1) (c .before .before .before .before .before .before .before .put .ensures) (c .if4 .left),
+    )
 
 same-length : tie.Need-same-length Inv-loop μ-loop
 same-length c = omega (arith, c .before .before .before .loop .inv .0 .firsts, c .before .before .before .before .before .before .before .before .before .before .pre .1 .firsts)

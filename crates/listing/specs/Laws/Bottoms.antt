@@ -72,8 +72,8 @@ module _ (h low high : ℕ) (full : low < high) (below : high ≤ lift + reach) 
       cond-ind (From h (m + lift + reach - low)) (ltb (i .top - i .bottom) (high - low))
       (λ e. from-weaken h (m + lift + reach - low) (i .top + h + lift + reach - low) (bottoms low high L) (omega arith) rest)
       (λ e.
-          let (j, u) = multiple-sub h (i .top - i .bottom) (high - low) (multiple-sub h (i .top) (i .bottom) z x (omega arith)) whole (omega tests) in
-          (omega arith, (j, omega tests), from-weaken h (i .top + lift + reach - high + 2 * h) (i .top + h + lift + reach - low) (bottoms low high L) (omega arith) rest))
+      let (j, u) = multiple-sub h (i .top - i .bottom) (high - low) (multiple-sub h (i .top) (i .bottom) z x (omega arith)) whole (omega tests) in
+      (omega arith, (j, omega tests), from-weaken h (i .top + lift + reach - high + 2 * h) (i .top + h + lift + reach - low) (bottoms low high L) (omega arith) rest))
 
   -- they name the bottoms at which one of the intervals holds the block, on the grid
   stood-in : (m y : ℕ) (i : Interval) (L : List Interval) → Apart m (i ∷ L) → OnGrid h (i ∷ L) → In h y (bottoms-in low high i) → Stood h low high y (i ∷ L)

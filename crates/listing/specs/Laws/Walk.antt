@@ -166,8 +166,11 @@ module _ (r : List ℕ) (c : ℕ) (k : model.Block) (F T : List ℕ) (n s : ℕ)
           fits = few-runs (e .step) (push (e .step) (run (e .first) (e .last)) (read o G U)) (two (e .step) (z .lcm)) (made .canon)
               (λ y n. m .bound y (written-of s h A B (e .step) _ y (push (e .step) (run (e .first) (e .last)) (read o G U)) made n));
           step = omega (arith, z .lcm .small, mul-le-mul {n₁ = s} {m₁ = h} {n₂ = 255} {m₂ = 255} (omega (arith, m .step)) (omega (arith, height-small (k .kind))));
-          last = λ l. omega (arith, m .bound (getD U (o - 1) 0)
-              (written-of s h A B (e .step) (v .n) (getD U (o - 1) 0) (read o G U) (v .written) (ends-named (e .step) 0 o (o - 1) G U (v .written .canon) (omega arith) .1)));
+          last = λ l. omega (
+            arith,
+            m .bound (getD U (o - 1) 0)
+                (written-of s h A B (e .step) (v .n) (getD U (o - 1) 0) (read o G U) (v .written) (ends-named (e .step) 0 o (o - 1) G U (v .written .canon) (omega arith) .1)),
+          );
         }
 
     -- d is the code's range of the interval
