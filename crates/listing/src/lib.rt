@@ -362,11 +362,11 @@ pub fn list(record: &[u8], task: &[u8], output: &mut [u8]) -> Listed
 {
     let mut firsts = [0u32; 64];
     let mut lasts = [0u32; 64];
-    let columns = byte(record, model::COLUMNS_AT);
+    let last = byte(record, model::COLUMNS_AT) - 1;
     let step = task::step(task);
     let mut n: usize = 0;
     let mut p: usize = 0;
-    while p < columns {
+    while p <= last {
         let count = column_ranges(record, task, p, &mut firsts, &mut lasts);
         write_ranges(output, n, p, step, &firsts, &lasts, count);
         n += count;
@@ -375,5 +375,6 @@ pub fn list(record: &[u8], task: &[u8], output: &mut [u8]) -> Listed
     if n == 0 {
         return Listed::NoPosition;
     }
-    Listed::Ranges(n as u32)
+    let answer = n as u32;
+    Listed::Ranges(answer)
 }

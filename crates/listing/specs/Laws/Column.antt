@@ -49,6 +49,9 @@ module _ (r : List ℕ) (s : sound r ≡ true) where
   pub few-columns : columns (device-of r) ≤ max-columns
   few-columns = limits-to (device-of r) (book-of r) (sound-within r s) .columns
 
+  pub some-columns : 1 ≤ columns (device-of r)
+  some-columns = limits-to (device-of r) (book-of r) (sound-within r s) .columns-one
+
   kind-here : (c : ℕ) → c < columns (device-of r) → kind (device-of r) c ≡ getD r (kinds-at + c) 0
   unfolding kind device-of
   kind-here c l = getD-list (λ c. getD r (kinds-at + c) 0) (getD r columns-at 0) c 0 (omega (arith, columns-said r))
