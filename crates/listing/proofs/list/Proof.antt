@@ -10,12 +10,6 @@ use Rattle.listing.specs.Laws.Column.{some-columns, few-columns}
 use Rattle.listing.specs.Laws.Output.{Written, written-none, written-length, all-writable, written-next, answer-none, answer-some, few-ranges}
 use Rattle.listing.proofs.list.Statement.{statement}
 use Rattle.listing.proofs.list.Tie as tie
-use Rattle.listing.proofs.list.Reads as reads
-use Rattle.listing.proofs.list.Lts as lts
-use Rattle.listing.proofs.byte.Reads as byte-reads
-use Rattle.listing.proofs.column_ranges.Reads as column-ranges-reads
-use Rattle.listing.proofs.write_ranges.Reads as write-ranges-reads
-use Rattle.task.proofs.step.Reads as step-reads
 
 abbrev Inv-loop : tie.InvT-loop
 Inv-loop «record» task output₀ firsts₀ lasts₀ last step n₀ p₀ output firsts lasts n p =
