@@ -87,7 +87,7 @@ insert-last e (f ∷ b) h =
     rw (le-ltb (e .number) (f .number) (omega arith)) (ap (λ (x : Book). f ∷ x) (insert-last e b (λ g i. h g (inr i))))
 
 module _ (d : Device) (b : Book) (j : ℕ) (q : j < length b) where
-  -- within the limits, a task fits among those before it
+  -- THEOREM: within the limits, a task fits among those before it
   pub fits-among : within d b ≡ true
       → let e = getD b j no-entry in fits d (take j b) (e .task) (e .column) (e .bottom) ≡ true
   unfolding held
@@ -112,12 +112,15 @@ module _ (d : Device) (b : Book) (j : ℕ) (q : j < length b) where
 -- ---- what entry j says
 
 module _ (r : List ℕ) (j : ℕ) (x : HasEntry r j) where
+  in-book : j < length (book-of r)
+  in-book = omega (arith, running-said r, x .runs)
+
   entry-read : entry-of r j ≡ running-of (part r (entry-at j) entry-size)
   unfolding book-of
   entry-read = getD-list (λ j. running-of (part r (entry-at j) entry-size)) (getD r running-at 0) j no-entry (x .runs)
 
-  -- all of it
-  pub entry-said : block-count r j ≤ max-blocks → entry-of r j ≡ said r j
+  -- the entry is what its bytes say
+  entry-said : block-count r j ≤ max-blocks → entry-of r j ≡ said r j
   unfolding running-of part
   entry-said few =
       let a = entry-at j in
@@ -126,7 +129,7 @@ module _ (r : List ℕ) (j : ℕ) (x : HasEntry r j) where
       let e : a + blocks-at + m - (a + blocks-at) ≡ m = omega arith in
       entry-read ∙ (rw (e, rw add-zero at (word-part r a entry-size 0 (omega arith)), word-part r a entry-size 4 (omega arith), getD-part r a entry-size 2 0 (omega arith), n, part-part r a entry-size blocks-at m (omega arith)))
 
-  pub blocks-length : block-count r j ≤ max-blocks → length (blocks-of r j) ≡ block-size * block-count r j
+  blocks-length : block-count r j ≤ max-blocks → length (blocks-of r j) ≡ block-size * block-count r j
   blocks-length few =
       let e : entry-at j + blocks-at + block-size * block-count r j - (entry-at j + blocks-at) ≡ block-size * block-count r j = omega arith in
       rw e (simp (length-take, length-drop) (omega (arith, x .size)))
@@ -150,24 +153,21 @@ unfolding sized
 sized-of t n e one most =
     rw (ne-eqb (length t) 0 (λ z. omega arith), le-leb (length t) (block-size * max-blocks) (omega arith)) (eq-eqb (length t % block-size) 0 (omega arith))
 
-pub blocks-sized : (r : List ℕ) (j : ℕ) → HasEntry r j → 1 ≤ block-count r j → block-count r j ≤ max-blocks → sized (blocks-of r j) ≡ true
+blocks-sized : (r : List ℕ) (j : ℕ) → HasEntry r j → 1 ≤ block-count r j → block-count r j ≤ max-blocks → sized (blocks-of r j) ≡ true
 blocks-sized r j x one most = sized-of (blocks-of r j) (block-count r j) (blocks-length r j x most) one most
 
 -- ---- in a sound record entry j passes the tests
 
 module _ (r : List ℕ) (j : ℕ) (x : HasEntry r j) (s : sound r ≡ true) where
-  in-book : j < length (book-of r)
-  in-book = omega (arith, running-said r, x .runs)
-
   count-sound : (1 ≤ block-count r j) × (block-count r j ≤ max-blocks)
   count-sound = let y = clauses-to r s in (y .some-blocks j (x .runs), y .few-blocks j (x .runs))
 
   in-limits : Entry (device-of r) (entry-of r j)
-  in-limits = limits-to (device-of r) (book-of r) (sound-within r s) .entries (entry-of r j) (getD-in (book-of r) j no-entry in-book)
+  in-limits = limits-to (device-of r) (book-of r) (sound-within r s) .entries (entry-of r j) (getD-in (book-of r) j no-entry (in-book r j x))
 
   sound-passes : Passes r j
   sound-passes = record {
-    rises = prior-below 0 (book-of r) (limits-to (device-of r) (book-of r) (sound-within r s) .rising) j in-book;
+    rises = prior-below 0 (book-of r) (limits-to (device-of r) (book-of r) (sound-within r s) .rising) j (in-book r j x);
     some-blocks = count-sound .0;
     few-blocks = count-sound .1;
   }
@@ -176,7 +176,7 @@ module _ (r : List ℕ) (j : ℕ) (x : HasEntry r j) (s : sound r ≡ true) wher
   sound-formed = rw (entry-said r j x (count-sound .1)) at (in-limits .well-formed)
 
   sound-fits : fits (device-of r) (take j (book-of r)) (blocks-of r j) (getD r (entry-at j + 2) 0) (word r (entry-at j + 4)) ≡ true
-  sound-fits = rw (entry-said r j x (count-sound .1)) at (fits-among (device-of r) (book-of r) j in-book (sound-within r s))
+  sound-fits = rw (entry-said r j x (count-sound .1)) at (fits-among (device-of r) (book-of r) j (in-book r j x) (sound-within r s))
 
 -- so where a test fails, the record is not sound
 module _ (r : List ℕ) (j : ℕ) (x : HasEntry r j) where
@@ -195,21 +195,20 @@ module _ (r : List ℕ) (j : ℕ) (x : HasEntry r j) where
 -- ---- a task is tried
 
 module _ (s t : List ℕ) (n p y : ℕ) where
-  pub tried-formless : (ok : Bool) → ok ≡ well-formed t → ok ≡ false → Tried s t n p y s false
-  tried-formless ok e f = record {
+  -- refused: it is not well-formed, or does not fit, and the record stays
+  tried-not : (well-formed t ≡ true → fits (device-of s) (book-of s) t p y ≡ true → ⊥) → Tried s t n p y s false
+  tried-not k = record {
     formed = λ h. absurd (false≢true h);
     fitted = λ h. absurd (false≢true h);
     entered = λ h. absurd (false≢true h);
-    refused = λ h w g. clash w (sym e ∙ f);
+    refused = λ h. k;
   }
 
+  pub tried-formless : (ok : Bool) → ok ≡ well-formed t → ok ≡ false → Tried s t n p y s false
+  tried-formless ok e f = tried-not (λ w g. clash w (sym e ∙ f))
+
   pub tried-misfit : (ok : Bool) → ok ≡ fits (device-of s) (book-of s) t p y → ok ≡ false → Tried s t n p y s false
-  tried-misfit ok e f = record {
-    formed = λ h. absurd (false≢true h);
-    fitted = λ h. absurd (false≢true h);
-    entered = λ h. absurd (false≢true h);
-    refused = λ h w g. clash g (sym e ∙ f);
-  }
+  tried-misfit ok e f = tried-not (λ w g. clash g (sym e ∙ f))
 
   pub tried-entered : (u : List ℕ) → well-formed t ≡ true → fits (device-of s) (book-of s) t p y ≡ true
       → u ≡ record-of (device-of s) (insert (record { number = n; column = p; bottom = y; task = t }) (book-of s)) → Tried s t n p y u true
@@ -225,12 +224,9 @@ module _ (r s : List ℕ) (j : ℕ) (m : Rebuilt r s j) where
   scratch-book = ap book-of (m .bytes) ∙ book-of-record (device-of r) (take j (book-of r)) (m .limits)
 
   module _ (x : HasEntry r j) (t : Passes r j) where
-    in-book-still : j < length (book-of r)
-    in-book-still = omega (arith, running-said r, x .runs)
-
     below-number : (f : Running) → In f (take j (book-of r)) → f .number < entry-of r j .number
     below-number f i =
-        omega (arith, t .rises, prior-above 0 (book-of r) j (limits-to (device-of r) (take j (book-of r)) (m .limits) .rising) (omega (arith, in-book-still)) f i)
+        omega (arith, t .rises, prior-above 0 (book-of r) j (limits-to (device-of r) (take j (book-of r)) (m .limits) .rising) (omega (arith, in-book r j x)) f i)
 
     module _ (B : Bytes r) where
       small : word r (entry-at j) < words
@@ -248,7 +244,7 @@ module _ (r s : List ℕ) (j : ℕ) (m : Rebuilt r s j) where
         sound = ap sound (m .bytes) ∙ record-sound (device-of r) (take j (book-of r)) (m .limits);
         sized = blocks-sized r j x (t .some-blocks) (t .few-blocks);
         number = number-fits;
-        room = rw (scratch-book, length-take-le j (book-of r) (omega (arith, in-book-still))) (omega (arith, x .few, x .runs));
+        room = rw (scratch-book, length-take-le j (book-of r) (omega (arith, in-book r j x))) (omega (arith, x .few, x .runs));
       }
 
       -- one task more
@@ -259,7 +255,7 @@ module _ (r s : List ℕ) (j : ℕ) (m : Rebuilt r s j) where
           let y = entry-of r j in
           let is = entry-said r j x (t .few-blocks) in
           let f : fits d (take j b) (y .task) (y .column) (y .bottom) ≡ true = rw is (rw (scratch-device, scratch-book) at (v .fitted refl)) in
-          let more : insert y (take j b) ≡ take n b = rw (k, add-one) (insert-last y (take j b) below-number ∙ sym (take-suc b j no-entry in-book-still)) in
+          let more : insert y (take j b) ≡ take n b = rw (k, add-one) (insert-last y (take j b) below-number ∙ sym (take-suc b j no-entry (in-book r j x))) in
           let number = number-said r j (x .runs) in
           record {
             bytes = v .entered refl ∙ (rw (scratch-device, scratch-book, ← is) (ap (record-of d) more));
