@@ -9,11 +9,12 @@ ghost use Prim.Native.Nat.{_<_};
 ghost use lib.Dec.{leb};
 ghost use lib.ListN.{length};
 ghost use Rattle.model.specs.Limits.{max-running};
-ghost use Rattle.model.specs.Record.{book-of};
+ghost use Rattle.model.specs.Book.{fits-at};
+ghost use Rattle.model.specs.Record.{device-of, book-of};
 ghost use Rattle.model.specs.Sound.{sound, number-ok};
 ghost use Rattle.model.specs.Calls.{list, choose, place, release, runs-in};
 ghost use Rattle.model.specs.OnRecord.{on-record, new, interval-count, view};
-ghost use Rattle.card.specs.Leaves.{Changes, Writes, Passed, ChecksTask};
+ghost use Rattle.card.specs.Leaves.{Changes, Writes, Passed, ChecksTask, ChecksPlace};
 
 // Document 01's table of refusals.
 pub const WRONG_LENGTH: i32 = -1;
@@ -68,8 +69,7 @@ fn runs(record: &[u8], number: u32) -> bool
     requires { ⌜ sound (now «record») ≡ true ⌝ }
     ensures { λ r. ⌜ r ≡ runs-in (book-of (now («record» .entry))) number ⌝ }
 {
-    let found = record::entries::find(record, number);
-    match found {
+    match record::entries::find(record, number) {
         Found::At(_) => true,
         Found::Nowhere => false,
     }
@@ -98,29 +98,38 @@ pub extern "C" fn card_new(record: &mut [u8], rows: u32, kinds: &[u8]) -> i32
     0
 }
 
-// A placement on a sound record, of a well-formed task.
-fn place_checked(record: &mut [u8], task: &[u8], number: u32, column: u32, bottom: i32) -> i32
+// Whether a task fits at a column and a bottom, which may lie off the device.
+fn fits_at(record: &[u8], task: &[u8], column: u32, bottom: i32) -> bool
     requires { ⌜ Passed (now «record») (now task) ⌝ }
-    ensures { λ r. ⌜ Changes (on-record (now («record» .entry)) (place (now (task .entry)) number column bottom)) r (now («record» .exit)) ⌝ }
+    ensures { λ r. ⌜ r ≡ fits-at (device-of (now («record» .entry))) (book-of (now («record» .entry))) (now (task .entry)) column bottom ⌝ }
 {
+    if bottom < 0 {
+        return false;
+    }
+    record::fits::fits(record, task, column, bottom as u32)
+}
+
+// All refusals of place.
+fn check_place(record: &[u8], task: &[u8], number: u32, column: u32, bottom: i32) -> Check
+    ensures { λ r. ⌜ ChecksPlace (now («record» .entry)) (now (task .entry)) number column bottom r ⌝ }
+{
+    let check = check_task(record, task);
+    let Check::Pass = check else {
+        return check;
+    };
     if !number_ok(number) {
-        return BAD_NUMBER;
+        return Check::Refuse(BAD_NUMBER);
     }
     if runs(record, number) {
-        return BAD_NUMBER;
+        return Check::Refuse(BAD_NUMBER);
     }
     if full(record) {
-        return CARD_FULL;
+        return Check::Refuse(CARD_FULL);
     }
-    if bottom < 0 {
-        return MISFIT;
+    if !fits_at(record, task, column, bottom) {
+        return Check::Refuse(MISFIT);
     }
-    let y = bottom as u32;
-    if !record::fits::fits(record, task, column, y) {
-        return MISFIT;
-    }
-    record::enter::enter(record, task, number, column, y);
-    0
+    Check::Pass
 }
 
 // Enters a task as running at a position, and takes its cells.
@@ -128,10 +137,12 @@ fn place_checked(record: &mut [u8], task: &[u8], number: u32, column: u32, botto
 pub extern "C" fn card_place(record: &mut [u8], task: &[u8], number: u32, column: u32, bottom: i32) -> i32
     ensures { λ r. ⌜ Changes (on-record (now («record» .entry)) (place (now (task .entry)) number column bottom)) r (now («record» .exit)) ⌝ }
 {
-    let check = check_task(record, task);
-    match check {
+    match check_place(record, task, number, column, bottom) {
         Check::Refuse(answer) => answer,
-        Check::Pass => place_checked(record, task, number, column, bottom),
+        Check::Pass => {
+            record::enter::enter(record, task, number, column, bottom as u32);
+            0
+        }
     }
 }
 
