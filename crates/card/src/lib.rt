@@ -2,7 +2,6 @@
 // Each contract equates the answer and every lent byte with document 01's call on that byte string (model/specs/OnRecord.antt), refusals included.
 // `on-record` is also the step of the theorem about whole histories (model/specs/Laws/History.antt).
 use record::entries::Found;
-
 ghost use mathlib.Core.Path.{_≡_};
 ghost use mathlib.Core.Bool.{Bool, true};
 ghost use Prim.Native.Nat.{_<_};
@@ -18,15 +17,25 @@ ghost use Rattle.card.specs.Leaves.{Changes, Writes, Passed, ChecksTask,
 
 // Document 01's table of refusals.
 pub const WRONG_LENGTH: i32 = -1;
+
 pub const NOT_SOUND: i32 = -2;
+
 pub const BAD_DEVICE: i32 = -3;
+
 pub const BAD_TASK_LENGTH: i32 = -4;
+
 pub const MALFORMED_TASK: i32 = -5;
+
 pub const SHORT_OUTPUT: i32 = -6;
+
 pub const BAD_NUMBER: i32 = -7;
+
 pub const CARD_FULL: i32 = -8;
+
 pub const NO_POSITION: i32 = -9;
+
 pub const MISFIT: i32 = -10;
+
 pub const NOT_RUNNING: i32 = -11;
 
 // What a call on a record with a task checks first.
@@ -134,7 +143,13 @@ fn check_place(record: &[u8], task: &[u8], number: u32, column: u32, bottom: i32
 
 // Enters a task as running at a position, and takes its cells.
 #[no_mangle]
-pub extern "C" fn card_place(record: &mut [u8], task: &[u8], number: u32, column: u32, bottom: i32) -> i32
+pub extern "C" fn card_place(
+    record: &mut [u8],
+    task: &[u8],
+    number: u32,
+    column: u32,
+    bottom: i32,
+) -> i32
     ensures { λ r. ⌜ Changes (on-record (now («record» .entry)) (place (now (task .entry)) number column bottom)) r (now («record» .exit)) ⌝ }
 {
     match check_place(record, task, number, column, bottom) {

@@ -4,5 +4,5 @@ pub mod device;
 pub mod enter;
 pub mod entries;
 pub mod fits;
-pub mod sound;
 pub mod leave;
+pub mod sound;

@@ -35,7 +35,7 @@ cast-result : tie.Need-cast-result
 cast-result c = record { sfits = omega (arith, c .shared-slice-known3 .given (counts-at + c .before .before .before .before .before .before .before .args .column)) }
 
 returns-4 : tie.Need-returns-4
-returns-4 c = 
+returns-4 c =
     let s = c .before .before .before in
     counts-some _ _ (λ i. omega (arith, c .shared-slice-known3 .given i)) (yes (s .before .sound .ensures) (s .if2 .left)) (c .before .if3 .left)
 

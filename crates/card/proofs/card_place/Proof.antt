@@ -16,13 +16,13 @@ enum-told : tie.Need-enum-told
 enum-told c = search needs
 
 cast-enter : tie.Need-cast-enter
-cast-enter c = 
+cast-enter c =
     let e = c .before in
     let f = e .before .before .before .before .before .before .fits .bottom in
     fits-casts _ _ _ _ f ((check-placing _ _ _ _ _ f (e .before .before .check-place .ensures) (e .enum-told .given .1)) .fits)
 
 enter-requires : tie.Need-enter-requires
-enter-requires c κs = 
+enter-requires c κs =
     let e = c .before in
     let f = e .before .before .before .before .before .before .fits .bottom in
     let x = check-placing _ _ _ _ _ f (e .before .before .check-place .ensures) (e .enum-told .given .1) in
@@ -32,7 +32,7 @@ same-length : tie.Need-same-length
 same-length c = search needs
 
 returns : tie.Need-returns
-returns c = 
+returns c =
     let k = c .before .before .before in
     let f = k .before .before .before .before .fits .bottom in
     rw (read w32 (c .known-told .given .0 .1)) (changes (place-refused _ _ _ _ _ f (k .check-place .ensures) (c .before .answer .given .1)))
@@ -41,7 +41,7 @@ same-length-2 : tie.Need-same-length-2
 same-length-2 c = search needs
 
 returns-2 : tie.Need-returns-2
-returns-2 c = 
+returns-2 c =
     let e = c .before .before .before .before in
     let f = e .before .before .before .before .before .before .fits .bottom in
     let x = check-placing _ _ _ _ _ f (e .before .before .check-place .ensures) (e .enum-told .given .1) in

@@ -25,13 +25,13 @@ same-length-2 : tie.Need-same-length-2
 same-length-2 c = search needs
 
 returns-3 : tie.Need-returns-3
-returns-3 c = 
+returns-3 c =
     let s = c .before .before .before in
     let a = s .before .before .before .before in
     changes (release-not _ _ (yes (s .before .sound .ensures) (s .if2 .left)) (λ i. omega (arith, a .slice-known .given i)) (no (c .before .runs .ensures) (c .if3 .taken)))
 
 leave-requires : tie.Need-leave-requires
-leave-requires c κs = 
+leave-requires c κs =
     let n = c .before in
     let s = n .before .before .before in
     (yes (s .before .sound .ensures) (s .if2 .left), yes (n .before .runs .ensures) (n .if3 .left))
@@ -40,7 +40,7 @@ same-length-3 : tie.Need-same-length-3
 same-length-3 c = search needs
 
 returns-4 : tie.Need-returns-4
-returns-4 c = 
+returns-4 c =
     let l = c .before .before in
     let n = l .before .before in
     let s = n .before .before .before in

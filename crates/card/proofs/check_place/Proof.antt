@@ -22,32 +22,32 @@ number-ok-requires : tie.Need-number-ok-requires
 number-ok-requires c κs = search needs
 
 returns-2 : tie.Need-returns-2
-returns-2 c = 
+returns-2 c =
     let e = c .before .before in
     let k = e .before .before in
     place-number _ _ _ _ _ (λ i. omega (arith, k .before .before .shared-slice-known .given i)) (check-passed _ _ _ (k .check-task .ensures) (e .enum-told .given .1)) (no (c .before .number-ok .ensures) (c .if1 .taken))
 
 runs-requires : tie.Need-runs-requires
-runs-requires c κs = 
+runs-requires c κs =
     let e = c .before .before in
     let k = e .before .before in
     (check-passed _ _ _ (k .check-task .ensures) (e .enum-told .given .1)) .sound
 
 returns-3 : tie.Need-returns-3
-returns-3 c = 
+returns-3 c =
     let n = c .before .before in
     let e = n .before .before in
     let k = e .before .before in
     place-running _ _ _ _ _ (λ i. omega (arith, k .before .before .shared-slice-known .given i)) (check-passed _ _ _ (k .check-task .ensures) (e .enum-told .given .1)) (yes (n .before .number-ok .ensures) (n .if1 .left)) (sym (c .before .runs .ensures) ∙ c .if2 .taken)
 
 full-requires : tie.Need-full-requires
-full-requires c κs = 
+full-requires c κs =
     let e = c .before .before .before .before in
     let k = e .before .before in
     (check-passed _ _ _ (k .check-task .ensures) (e .enum-told .given .1)) .sound
 
 returns-4 : tie.Need-returns-4
-returns-4 c = 
+returns-4 c =
     let w = c .before .before in
     let n = w .before .before in
     let e = n .before .before in
@@ -55,13 +55,13 @@ returns-4 c =
     place-full _ _ _ _ _ (λ i. omega (arith, k .before .before .shared-slice-known .given i)) (check-passed _ _ _ (k .check-task .ensures) (e .enum-told .given .1)) (yes (n .before .number-ok .ensures) (n .if1 .left)) (sym (w .before .runs .ensures) ∙ w .if2 .left) (sym (c .before .full .ensures) ∙ c .if3 .taken)
 
 fits-at-requires : tie.Need-fits-at-requires
-fits-at-requires c κs = 
+fits-at-requires c κs =
     let e = c .before .before .before .before .before .before in
     let k = e .before .before in
     check-passed _ _ _ (k .check-task .ensures) (e .enum-told .given .1)
 
 returns-5 : tie.Need-returns-5
-returns-5 c = 
+returns-5 c =
     let f = c .before .before in
     let w = f .before .before in
     let n = w .before .before in
@@ -70,7 +70,7 @@ returns-5 c =
     place-misfit _ _ _ _ _ (λ i. omega (arith, k .before .before .shared-slice-known .given i)) (check-passed _ _ _ (k .check-task .ensures) (e .enum-told .given .1)) (yes (n .before .number-ok .ensures) (n .if1 .left)) (sym (w .before .runs .ensures) ∙ w .if2 .left) (sym (f .before .full .ensures) ∙ f .if3 .left) (no (fits-read _ _ _ _ (k .before .before .before .fits .bottom) (c .before .fits-at .ensures)) (c .if4 .taken))
 
 returns-6 : tie.Need-returns-6
-returns-6 c = 
+returns-6 c =
     let f = c .before .before in
     let w = f .before .before in
     let n = w .before .before in

@@ -18,7 +18,7 @@ sized-requires : tie.Need-sized-requires
 sized-requires c κs = search needs
 
 returns-3 : tie.Need-returns-3
-returns-3 c = 
+returns-3 c =
     let s = c .before .before in
     let a = s .before .before .before .before in
     check-sized _ _ (λ i. omega (arith, a .shared-slice-known .given i)) (yes (s .before .sound .ensures) (s .if2 .left)) (no (c .before .sized .ensures) (c .if3 .taken))
@@ -27,7 +27,7 @@ well-formed-requires : tie.Need-well-formed-requires
 well-formed-requires c κs = search needs
 
 returns-4 : tie.Need-returns-4
-returns-4 c = 
+returns-4 c =
     let z = c .before .before in
     let s = z .before .before in
     let a = s .before .before .before .before in
@@ -35,7 +35,7 @@ returns-4 c =
     (no (c .before .well-formed .ensures) (c .if4 .taken))
 
 returns-5 : tie.Need-returns-5
-returns-5 c = 
+returns-5 c =
     let z = c .before .before in
     let s = z .before .before in
     record {

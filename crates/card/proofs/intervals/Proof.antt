@@ -1,7 +1,7 @@
 -- `intervals`: empty, or the part of the column. Assumes nothing.
-use borrow.Author.Needs.{needs}
+use borrow.Author.Needs.{needs, sfits-of}
 use native.Mathlib.Omega.{arith}
-use mir.Facts.{sfits-of}
+use mir.Syntax.{w32}
 use Rattle.signed.proofs.Signed.{negative, natural, unsigned}
 use Rattle.card.specs.Laws.{view-empty, view-counted, view-part}
 use Rattle.card.proofs.intervals.Statement.{statement}
@@ -20,9 +20,9 @@ part-result-end : tie.Need-part-result-end
 part-result-end c = search needs
 
 returns : tie.Need-returns
-returns c = 
+returns c =
     let k = c .before .before in
-    let f = sfits-of (k .card-interval-count .ok) in
+    let f = sfits-of {w = w32} {z = k .card-interval-count .result} (k .card-interval-count .ok) in
     view-empty _ _ _ (k .card-interval-count .ensures) (negative f (c .before .if1 .taken))
 
 mul-a : tie.Need-mul-a
@@ -32,22 +32,22 @@ add-a : tie.Need-add-a
 add-a c = search needs
 
 cast-e : tie.Need-cast-e
-cast-e c = 
+cast-e c =
     let k = c .before in
-    let f = sfits-of (k .card-interval-count .ok) in
+    let f = sfits-of {w = w32} {z = k .card-interval-count .result} (k .card-interval-count .ok) in
     unsigned f tt (c .if1 .left)
 
 mul-e : tie.Need-mul-e
-mul-e c = 
+mul-e c =
     let k = c .before in
-    let f = sfits-of (k .card-interval-count .ok) in
+    let f = sfits-of {w = w32} {z = k .card-interval-count .result} (k .card-interval-count .ok) in
     let x = view-counted _ _ _ (k .card-interval-count .ensures) _ (natural f (c .if1 .left)) in
     omega arith
 
 add-e : tie.Need-add-e
-add-e c = 
+add-e c =
     let k = c .before in
-    let f = sfits-of (k .card-interval-count .ok) in
+    let f = sfits-of {w = w32} {z = k .card-interval-count .result} (k .card-interval-count .ok) in
     let x = view-counted _ _ _ (k .card-interval-count .ensures) _ (natural f (c .if1 .left)) in
     omega arith
 
@@ -58,16 +58,16 @@ part-result-start-2 : tie.Need-part-result-start-2
 part-result-start-2 c = search needs
 
 part-result-end-2 : tie.Need-part-result-end-2
-part-result-end-2 c = 
+part-result-end-2 c =
     let k = c .before in
-    let f = sfits-of (k .card-interval-count .ok) in
+    let f = sfits-of {w = w32} {z = k .card-interval-count .result} (k .card-interval-count .ok) in
     let x = view-counted _ _ _ (k .card-interval-count .ensures) _ (natural f (c .if1 .left)) in
     omega arith
 
 returns-2 : tie.Need-returns-2
-returns-2 c = 
+returns-2 c =
     let k = c .before .before in
-    let f = sfits-of (k .card-interval-count .ok) in
+    let f = sfits-of {w = w32} {z = k .card-interval-count .result} (k .card-interval-count .ok) in
     view-part _ _ _ (k .card-interval-count .ensures) _ (natural f (c .before .if1 .left))
 
 pub intervals-spec : {M : Type 1} → statement M
