@@ -4,3 +4,4 @@ pub mod Runs
 pub mod Intervals
 pub mod Streaming
 pub mod Meet
+pub mod Both

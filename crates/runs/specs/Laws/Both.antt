@@ -1,0 +1,187 @@
+-- The walk along two lists of runs that lists what both name: always the two current runs are met, and the one that ends first is passed.
+-- It holds for any two steps. Assumes nothing.
+use mathlib.Core.Path.{_≡_, refl, sym, ap, _∙_}
+use mathlib.Core.Logic.{_⊎_, inl, inr, _↔_}
+use mathlib.Core.Bool.{Bool, true, false, _&&_, true≢false, and-eq-true-iff}
+use mathlib.Core.List.{List, [], _∷_}
+use Prim.Native.Nat.{ℕ, zero, suc, _+_, _-_, _*_, _≤_, _<_, min, max}
+use native.Mathlib.Nat.{mul-le-mul-right}
+use native.Mathlib.Omega.{arith}
+use lib.ListN.{length}
+use Rattle.runs.specs.Laws.Tests.{lt-or-ge}
+use Rattle.runs.specs.Runs.{Run, run, Steps, In, Mem, From, Canon, push, mem, Lists}
+use Rattle.runs.specs.Laws.Runs.{mem-ge, InStep, skip-lists, push-lists, mem-true, mem-test}
+use Rattle.runs.specs.Intervals.{Multiple}
+use Rattle.runs.specs.Meet.{Lcm}
+
+-- ---- tools
+
+pub from-weaken : (s k m : ℕ) (L : List Run) → k ≤ m → From s m L → From s k L
+from-weaken s k m [] l c = tt
+from-weaken s k m (r ∷ L) l c = (omega arith, c .1, c .2)
+
+count-tail : (s m n : ℕ) (r : Run) (L : List Run) → From s m (r ∷ L) → ((y : ℕ) → Mem s y (r ∷ L) → y < n) → 2 * s * length L + m < n
+count-tail s m n r [] c b = omega (arith, b (r .first) (inl ((0, omega arith), omega arith)))
+count-tail s m n r (q ∷ L) c b = omega (arith, count-tail s (r .last + 2 * s) n q L (c .2) (λ y h. b y (inr h)))
+
+-- a canonical list from m on and below n has few runs
+pub count-above : (s m n : ℕ) (L : List Run) → 1 ≤ s → m ≤ n → From s m L → ((y : ℕ) → Mem s y L → y < n) → 2 * s * length L + m < n + 2 * s
+count-above s m n [] p l c b = omega arith
+count-above s m n (r ∷ L) p l c b = omega (arith, count-tail s m n r L c b)
+
+-- what a canonical list names from m on
+pub from-least : (s m k : ℕ) (L : List Run) → From s k L → ((y : ℕ) → Mem s y L → m ≤ y) → From s m L
+from-least s m k [] c h = tt
+from-least s m k (r ∷ L) c h = (h (r .first) (inl ((0, omega arith), omega arith)), c .1, c .2)
+
+-- of the numbers that L names, the higher is in steps of s above the lower
+abbrev pub Spaced : ℕ → List Run → Type 0
+Spaced s L = (x y : ℕ) → Mem s x L → Mem s y L → x < y → Steps s (x + s) y
+
+-- there is one least common multiple
+pub lcm-unique : (a b l m : ℕ) → Lcm a b l → Lcm a b m → l ≡ m
+lcm-unique a b l m c d = multiples (c .least m (d .left) (d .right)) (d .least l (c .left) (c .right))
+  where
+    multiples : Multiple l m → Multiple m l → l ≡ m
+    multiples (zero, u) (j, v) = absurd (omega (arith, d .pos))
+    multiples (suc i, u) (zero, v) = absurd (omega (arith, c .pos))
+    multiples (suc i, u) (suc j, v) = omega arith
+
+-- in steps of a and of b is in steps of their least common multiple
+pub lcm-steps : (a b l x y : ℕ) → Lcm a b l → x < y → Steps a (x + a) y → Steps b (x + b) y → Steps l (x + l) y
+lcm-steps a b l x y c g (i, u) (j, v) = go (c .least (y - x) (suc i, omega arith) (suc j, omega arith))
+  where
+    go : Multiple l (y - x) → Steps l (x + l) y
+    go (zero, e) = absurd (omega arith)
+    go (suc k, e) = (k, omega arith)
+
+-- ---- the walk: s is the step of what is written, f the test of what is sought
+
+-- The numbers below n with f are written: they are those of O. The others are those that both X and Y name, what is left of the two lists.
+pub record Walk (a b s : ℕ) (f : ℕ → Bool) (X Y O : List Run) : Type 0 where
+  pub n : ℕ
+  pub left : Canon a X
+  pub right : Canon b Y
+  pub written : Lists s f n O
+  pub rest : (y : ℕ) → (Mem a y X × Mem b y Y) ↔ ((n ≤ y) × (f y ≡ true))
+
+-- what is met of the two current runs is put at the end of what is written
+abbrev pub Put : ℕ → Run → Run → ℕ → ℕ → List Run → List Run → Type 0
+Put s x y a b O O′ =
+    (((z : ℕ) → In a z x → In b z y → ⊥) × (O′ ≡ O))
+    ⊎ ((r : Run) × ((z : ℕ) → In s z r ↔ (In a z x × In b z y)) × Steps s (r .first) (r .last) × (O′ ≡ push s r O))
+
+module _ (a b s : ℕ) (f : ℕ → Bool) (p : 1 ≤ a) (q : 1 ≤ b) (i : InStep s f) where
+  module _ (x y : Run) (X Y O : List Run) (w : Walk a b s f (x ∷ X) (y ∷ Y) O) where
+    -- up to here all is written after the meeting
+    abbrev met : ℕ
+    met = max (w .n) (suc (min (x .last) (y .last)))
+
+    both : (z : ℕ) → w .n ≤ z → z < met → f z ≡ true → In a z x × In b z y
+    both z l g h = let (u, v) = w .rest z .1 (l, h) in (in-x u, in-y v)
+      where
+        in-x : Mem a z (x ∷ X) → In a z x
+        in-x (inl u) = u
+        in-x (inr u) = absurd (omega (arith, mem-ge a (x .last + 2 * a) z X (w .left .2) u))
+
+        in-y : Mem b z (y ∷ Y) → In b z y
+        in-y (inl u) = u
+        in-y (inr u) = absurd (omega (arith, mem-ge b (y .last + 2 * b) z Y (w .right .2) u))
+
+    pub written-met : (O′ : List Run) → Put s x y a b O O′ → Lists s f met O′
+    written-met O′ (inl (out, e)) =
+        rw e (skip-lists s f (w .n) met O (omega arith) (w .written) (λ z l g. none z l g (f z) refl))
+      where
+        none : (z : ℕ) → w .n ≤ z → z < met → (t : Bool) → f z ≡ t → t ≡ false
+        none z l g true h = let (u, v) = both z l g h in absurd (out z u v)
+        none z l g false h = refl
+    written-met O′ (inr (r, is, t, e)) =
+        let u = is (r .first) .0 ((0, omega arith), omega arith) in
+        let v = is (r .last) .0 (t, omega arith) in
+        let n = w .rest (r .first) .0 (inl (u .0), inl (u .1)) in
+        rw e (push-lists s f (w .n) met r O i (w .written) (n .0) (omega arith) t
+        (λ z l g. (λ h. is z .1 (both z l g h), λ h. let k = is z .0 h in w .rest z .0 (inl (k .0), inl (k .1)) .1)))
+
+    pub pass-left : (O′ : List Run) → Put s x y a b O O′ → x .last ≤ y .last → Walk a b s f X (y ∷ Y) O′
+    pass-left O′ put l = record {
+      n = met;
+      left = from-weaken a 0 (x .last + 2 * a) X (omega arith) (w .left .2);
+      right = w .right;
+      written = written-met O′ put;
+      rest = λ z. (
+        λ (u, v). let g = mem-ge a (x .last + 2 * a) z X (w .left .2) u in let k = w .rest z .0 (inr u, v) in (omega arith, k .1),
+        λ (g, h). let (u, v) = w .rest z .1 (omega arith, h) in (past z g u, v),
+      );
+    }
+      where
+        past : (z : ℕ) → met ≤ z → Mem a z (x ∷ X) → Mem a z X
+        past z g (inl u) = absurd (omega arith)
+        past z g (inr u) = u
+
+    pub pass-right : (O′ : List Run) → Put s x y a b O O′ → y .last ≤ x .last → Walk a b s f (x ∷ X) Y O′
+    pass-right O′ put l = record {
+      n = met;
+      left = w .left;
+      right = from-weaken b 0 (y .last + 2 * b) Y (omega arith) (w .right .2);
+      written = written-met O′ put;
+      rest = λ z. (
+        λ (u, v). let g = mem-ge b (y .last + 2 * b) z Y (w .right .2) v in let k = w .rest z .0 (u, inr v) in (omega arith, k .1),
+        λ (g, h). let (u, v) = w .rest z .1 (omega arith, h) in (u, past z g v),
+      );
+    }
+      where
+        past : (z : ℕ) → met ≤ z → Mem b z (y ∷ Y) → Mem b z Y
+        past z g (inl u) = absurd (omega arith)
+        past z g (inr u) = u
+
+-- ---- all of it
+
+-- the numbers that both name, as a test
+abbrev pub both? : ℕ → ℕ → List Run → List Run → ℕ → Bool
+both? a b A B y = mem a y A && mem b y B
+
+-- O is canonical in step s, and names exactly what both A, in step a, and B, in step b, name
+pub record Meeting (a b s : ℕ) (A B O : List Run) : Type 0 where
+  pub canon : Canon s O
+  pub named : (y : ℕ) → Mem s y O ↔ (Mem a y A × Mem b y B)
+
+module _ (a b : ℕ) (A B : List Run) where
+  both-to : (y : ℕ) → both? a b A B y ≡ true → Mem a y A × Mem b y B
+  both-to y h = let (u, v) = and-eq-true-iff (mem a y A) (mem b y B) .0 h in (mem-true a y A u, mem-true b y B v)
+
+  both-of : (y : ℕ) → Mem a y A → Mem b y B → both? a b A B y ≡ true
+  both-of y u v = and-eq-true-iff (mem a y A) (mem b y B) .1 (mem-test a y A u, mem-test b y B v)
+
+  -- what both name is in steps of the least common multiple
+  pub both-steps : (s : ℕ) → Lcm a b s → Spaced a A → Spaced b B → InStep s (both? a b A B)
+  both-steps s c u v x y h k l =
+      let (p, q) = both-to x h in
+      let (m, n) = both-to y k in
+      lcm-steps a b s x y c l (u x y p m l) (v x y q n l)
+
+  pub walk-start : (s : ℕ) → Canon a A → Canon b B → Walk a b s (both? a b A B) A B []
+  walk-start s c d = record {
+    n = 0;
+    left = c;
+    right = d;
+    written = record { canon = tt; named = λ y. (λ h. absurd h, λ h. absurd (omega arith)) };
+    rest = λ y. (λ (u, v). (omega arith, both-of y u v), λ (l, h). both-to y h);
+  }
+
+  -- THEOREM: where nothing is left in one of the lists, what is written is what both name
+  pub walk-done : (s : ℕ) (X Y O : List Run) → Walk a b s (both? a b A B) X Y O → ((y : ℕ) → Mem a y X → Mem b y Y → ⊥) → Meeting a b s A B O
+  walk-done s X Y O w h = record {
+    canon = w .written .canon;
+    named = λ y. (λ m. both-to y (w .written .named y .0 m .1), λ (u, v). w .written .named y .1 (below y (both-of y u v), both-of y u v));
+  }
+    where
+      below : (y : ℕ) → both? a b A B y ≡ true → y < w .n
+      below y t = go (lt-or-ge y (w .n))
+        where
+          go : (y < w .n) ⊎ (w .n ≤ y) → y < w .n
+          go (inl l) = l
+          go (inr l) = let (u, v) = w .rest y .1 (l, t) in absurd (h y u v)
+
+  -- what is written is no more than what both name
+  pub written-of : (s n y : ℕ) (O : List Run) → Lists s (both? a b A B) n O → Mem s y O → Mem a y A
+  written-of s n y O g m = both-to y (g .named y .0 m .1) .0
