@@ -30,13 +30,14 @@ use Rattle.model.specs.Laws.Cells.{few-intervals}
 use Rattle.model.specs.Laws.Record.{record-count}
 use Rattle.model.specs.Laws.Sound.{columns-said, running-said, sound-within, sound-record}
 use Rattle.model.specs.Laws.OnRecord.{wrong-length-call, not-sound-call, refused-call, done-call, count-wrong-length, count-not-sound, count-no-column, count-done}
+use Rattle.listing.specs.Columns.{Given}
 use Rattle.record.specs.Entries.{Finds, runs-at}
 use Rattle.record.specs.Enter.{Placeable}
 use Rattle.record.specs.declared.entries.Found.{Found}
 use Rattle.record.specs.declared.entries.Found.the-variants.{At, Nowhere}
 use Rattle.card.specs.declared.Check.{Check}
 use Rattle.card.specs.declared.Check.the-variants.{Pass, Refuse}
-use Rattle.card.specs.Leaves.{Changes, Writes, Refused, Passed, HasTask, ChecksTask, Placing, ChecksPlace}
+use Rattle.card.specs.Leaves.{Changes, Writes, Refused, HasTask, ChecksTask, Placing, ChecksPlace}
 
 -- the outcome has this answer, this output and this record
 pub answers : {o : Outcome (List ℕ)} {a : ℤ} {l r : List ℕ} → o ≡ record { answer = a; output = l; state = r } → a ≡ o .answer
@@ -146,27 +147,27 @@ module _ (r t : List ℕ) where
 pub check-place : (r t : List ℕ) (n p : ℕ) (y : ℤ) (z : ℤ) (x : Check) → ChecksTask r t x → x ≡ Refuse z → ChecksPlace r t n p y x
 check-place r t n p y z x h e = rw e ((rw e at h) (place t n p y) refl)
 
-pub check-passed : (r t : List ℕ) (x : Check) → ChecksTask r t x → x ≡ Pass → Passed r t
-check-passed r t x h e = rw e at h
+pub check-given : (r t : List ℕ) (x : Check) → ChecksTask r t x → x ≡ Pass → Given r t
+check-given r t x h e = rw e at h
 
-module _ (r t : List ℕ) (n p : ℕ) (y : ℤ) (B : Bytes r) (x : Passed r t) where
+module _ (r t : List ℕ) (n p : ℕ) (y : ℤ) (B : Bytes r) (x : Given r t) where
   pub place-number : number-ok n ≡ false → Refused r (negsuc 6) (place t n p y)
   unfolding refused refusals
-  place-number e = refused-call r (place t n p y) (x .sound) B 7 (rw (x .sized, x .well-formed, e))
+  place-number e = refused-call r (place t n p y) (x .sound) B 7 (rw (x .sized, x .formed, e))
 
   module _ (o : number-ok n ≡ true) where
     pub place-running : runs-in (book-of r) n ≡ true → Refused r (negsuc 6) (place t n p y)
     unfolding refused refusals
-    place-running e = refused-call r (place t n p y) (x .sound) B 7 (rw (x .sized, x .well-formed, o, e))
+    place-running e = refused-call r (place t n p y) (x .sound) B 7 (rw (x .sized, x .formed, o, e))
 
     module _ (w : runs-in (book-of r) n ≡ false) where
       pub place-full : leb max-running (length (book-of r)) ≡ true → Refused r (negsuc 7) (place t n p y)
       unfolding refused refusals
-      place-full e = refused-call r (place t n p y) (x .sound) B 8 (rw (x .sized, x .well-formed, o, w, e))
+      place-full e = refused-call r (place t n p y) (x .sound) B 8 (rw (x .sized, x .formed, o, w, e))
 
       pub place-misfit : leb max-running (length (book-of r)) ≡ false → fits-at (device-of r) (book-of r) t p y ≡ false → Refused r (negsuc 9) (place t n p y)
       unfolding refused refusals
-      place-misfit f e = refused-call r (place t n p y) (x .sound) B 10 (rw (x .sized, x .well-formed, o, w, f, e))
+      place-misfit f e = refused-call r (place t n p y) (x .sound) B 10 (rw (x .sized, x .formed, o, w, f, e))
 
 -- `card_place` hands its signed bottom on
 pub check-placing : (r t : List ℕ) (n p : ℕ) {y : ℤ} (x : Check) → SFits w32 y → ChecksPlace r t n p (toZ w32 (ofZ w32 y)) x → x ≡ Pass → Placing r t n p y
@@ -180,16 +181,16 @@ pub placeable : (r t : List ℕ) (n p : ℕ) (y : ℤ) (k : ℕ) → Placing r t
     → Placeable r t p k × ((number-ok n ≡ true) × (length (book-of r) < max-running))
 unfolding fits-at
 placeable r t n p y k x e =
-    let z = x .passed in
-    (record { sound = z .sound; sized = z .sized; well-formed = z .well-formed; fits = rw e at (x .fits) }, (x .number, leb-false max-running (length (book-of r)) (x .room)))
+    let z = x .given in
+    (record { sound = z .sound; sized = z .sized; well-formed = z .formed; fits = rw e at (x .fits) }, (x .number, leb-false max-running (length (book-of r)) (x .room)))
 
 -- the task is entered at bottom k
 pub place-done : (r t : List ℕ) (n p : ℕ) (y : ℤ) (k : ℕ) → Placing r t n p y → y ≡ pos k
     → on-record r (place t n p y) ≡ record { answer = pos 0; output = []; state = record-of (device-of r) (insert (record { number = n; column = p; bottom = k; task = t }) (book-of r)) }
 unfolding refused refusals written done natural
 place-done r t n p y k x e =
-    let z = x .passed in
-    done-call r (place t n p y) (z .sound) (rw (z .sized, z .well-formed, x .number, x .new, x .room, x .fits)) ∙ rw e
+    let z = x .given in
+    done-call r (place t n p y) (z .sound) (rw (z .sized, z .formed, x .number, x .new, x .room, x .fits)) ∙ rw e
 
 -- ---- release
 

@@ -7,12 +7,12 @@ use lib.Dec.{leb}
 use lib.IntN.{ℤ}
 use lib.ListN.{length}
 use Rattle.model.specs.Limits.{max-running}
-use Rattle.model.specs.Tasks.{sized, well-formed}
 use Rattle.model.specs.Book.{fits-at}
 use Rattle.model.specs.Record.{device-of, book-of}
-use Rattle.model.specs.Sound.{sound, number-ok}
+use Rattle.model.specs.Sound.{number-ok}
 use Rattle.model.specs.Calls.{Call, list, choose, place, release, Outcome, lent, runs-in}
 use Rattle.model.specs.OnRecord.{on-record}
+use Rattle.listing.specs.Columns.{Given}
 use Rattle.card.specs.declared.Check.{Check}
 use Rattle.card.specs.declared.Check.the-variants.{Pass, Refuse}
 
@@ -32,12 +32,6 @@ pub record Writes (o : Outcome (List ℕ)) (answer : ℤ) (output : List ℕ) : 
 abbrev pub Refused : List ℕ → ℤ → Call → Type 0
 Refused r z c = on-record r c ≡ record { answer = z; output = lent c; state = r }
 
--- none of the refusals that list, choose and place share applies
-pub record Passed (r t : List ℕ) : Type 0 where
-  pub sound : sound r ≡ true
-  pub sized : sized t ≡ true
-  pub well-formed : well-formed t ≡ true
-
 -- the call has the task t
 abbrev pub HasTask : List ℕ → Call → Type 0
 HasTask t (list u o) = u ≡ t
@@ -47,12 +41,12 @@ HasTask t (release n) = ⊥
 
 -- a refusal is that of every call with the task, on that record
 abbrev pub ChecksTask : List ℕ → List ℕ → Check → Type 0
-ChecksTask r t Pass = Passed r t
+ChecksTask r t Pass = Given r t
 ChecksTask r t (Refuse z) = (c : Call) → HasTask t c → Refused r z c
 
 -- none of the refusals of place applies
 pub record Placing (r t : List ℕ) (n p : ℕ) (y : ℤ) : Type 0 where
-  pub passed : Passed r t
+  pub given : Given r t
   pub number : number-ok n ≡ true
   pub new : runs-in (book-of r) n ≡ false
   pub room : leb max-running (length (book-of r)) ≡ false

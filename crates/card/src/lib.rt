@@ -1,6 +1,7 @@
 // The calls on one card's record, for the match server: exported with the C calling form, save the view.
 // Each contract equates the answer and every lent byte with document 01's call on that byte string (model/specs/OnRecord.antt), refusals included.
 // `on-record` is also the step of the theorem about whole histories (model/specs/Laws/History.antt).
+use listing::Listed;
 use record::entries::Found;
 ghost use mathlib.Core.Path.{_≡_};
 ghost use mathlib.Core.Bool.{Bool, true};
@@ -13,7 +14,8 @@ ghost use Rattle.model.specs.Record.{device-of, book-of};
 ghost use Rattle.model.specs.Sound.{sound, number-ok};
 ghost use Rattle.model.specs.Calls.{list, choose, place, release, runs-in};
 ghost use Rattle.model.specs.OnRecord.{on-record, new, interval-count, view};
-ghost use Rattle.card.specs.Leaves.{Changes, Writes, Passed, ChecksTask, ChecksPlace};
+ghost use Rattle.listing.specs.Columns.{Given};
+ghost use Rattle.card.specs.Leaves.{Changes, Writes, ChecksTask, ChecksPlace};
 
 // Document 01's table of refusals.
 pub const WRONG_LENGTH: i32 = -1;
@@ -109,7 +111,7 @@ pub extern "C" fn card_new(record: &mut [u8], rows: u32, kinds: &[u8]) -> i32
 
 // Whether a task fits at a column and a bottom, which may lie off the device.
 fn fits_at(record: &[u8], task: &[u8], column: u32, bottom: i32) -> bool
-    requires { ⌜ Passed (now «record») (now task) ⌝ }
+    requires { ⌜ Given (now «record») (now task) ⌝ }
     ensures { λ r. ⌜ r ≡ fits-at (device-of (now («record» .entry))) (book-of (now («record» .entry))) (now (task .entry)) column bottom ⌝ }
 {
     if bottom < 0 {
@@ -177,6 +179,31 @@ pub extern "C" fn card_release(record: &mut [u8], number: u32) -> i32
     }
     record::leave::leave(record, number);
     0
+}
+
+// The listing of a well-formed task on a sound record.
+fn list_task(record: &[u8], task: &[u8], output: &mut [u8]) -> i32
+    requires { ⌜ Given (now «record») (now task) ⌝ }
+    ensures { λ r. ⌜ Writes (on-record (now («record» .entry)) (list (now (task .entry)) (now (output .entry)))) r (now (output .exit)) ⌝ }
+{
+    if output.len() < model::LIST_ROOM {
+        return SHORT_OUTPUT;
+    }
+    match listing::list(record, task, output) {
+        Listed::Ranges(count) => count as i32,
+        Listed::NoPosition => NO_POSITION,
+    }
+}
+
+// Writes the ranges of the positions at which a task fits.
+#[no_mangle]
+pub extern "C" fn card_list(record: &[u8], task: &[u8], output: &mut [u8]) -> i32
+    ensures { λ r. ⌜ Writes (on-record (now («record» .entry)) (list (now (task .entry)) (now (output .entry)))) r (now (output .exit)) ⌝ }
+{
+    match check_task(record, task) {
+        Check::Refuse(answer) => answer,
+        Check::Pass => list_task(record, task, output),
+    }
 }
 
 // The number of free intervals of a column.

@@ -2,7 +2,7 @@
 use borrow.Author.Needs.{needs}
 use native.Mathlib.Omega.{arith}
 use mathlib.Core.Path.{sym, _∙_}
-use Rattle.card.specs.Laws.{yes, no, fits-read, check-place, check-passed, place-number, place-running, place-full, place-misfit}
+use Rattle.card.specs.Laws.{yes, no, fits-read, check-place, check-given, place-number, place-running, place-full, place-misfit}
 use Rattle.card.proofs.check_place.Statement.{statement}
 use Rattle.card.proofs.check_place.Tie as tie
 
@@ -25,26 +25,26 @@ returns-2 : tie.Need-returns-2
 returns-2 c =
     let e = c .before .before in
     let k = e .before .before in
-    place-number _ _ _ _ _ (λ i. omega (arith, k .before .before .shared-slice-known .given i)) (check-passed _ _ _ (k .check-task .ensures) (e .enum-told .given .1)) (no (c .before .number-ok .ensures) (c .if1 .taken))
+    place-number _ _ _ _ _ (λ i. omega (arith, k .before .before .shared-slice-known .given i)) (check-given _ _ _ (k .check-task .ensures) (e .enum-told .given .1)) (no (c .before .number-ok .ensures) (c .if1 .taken))
 
 runs-requires : tie.Need-runs-requires
 runs-requires c κs =
     let e = c .before .before in
     let k = e .before .before in
-    (check-passed _ _ _ (k .check-task .ensures) (e .enum-told .given .1)) .sound
+    (check-given _ _ _ (k .check-task .ensures) (e .enum-told .given .1)) .sound
 
 returns-3 : tie.Need-returns-3
 returns-3 c =
     let n = c .before .before in
     let e = n .before .before in
     let k = e .before .before in
-    place-running _ _ _ _ _ (λ i. omega (arith, k .before .before .shared-slice-known .given i)) (check-passed _ _ _ (k .check-task .ensures) (e .enum-told .given .1)) (yes (n .before .number-ok .ensures) (n .if1 .left)) (sym (c .before .runs .ensures) ∙ c .if2 .taken)
+    place-running _ _ _ _ _ (λ i. omega (arith, k .before .before .shared-slice-known .given i)) (check-given _ _ _ (k .check-task .ensures) (e .enum-told .given .1)) (yes (n .before .number-ok .ensures) (n .if1 .left)) (sym (c .before .runs .ensures) ∙ c .if2 .taken)
 
 full-requires : tie.Need-full-requires
 full-requires c κs =
     let e = c .before .before .before .before in
     let k = e .before .before in
-    (check-passed _ _ _ (k .check-task .ensures) (e .enum-told .given .1)) .sound
+    (check-given _ _ _ (k .check-task .ensures) (e .enum-told .given .1)) .sound
 
 returns-4 : tie.Need-returns-4
 returns-4 c =
@@ -52,13 +52,13 @@ returns-4 c =
     let n = w .before .before in
     let e = n .before .before in
     let k = e .before .before in
-    place-full _ _ _ _ _ (λ i. omega (arith, k .before .before .shared-slice-known .given i)) (check-passed _ _ _ (k .check-task .ensures) (e .enum-told .given .1)) (yes (n .before .number-ok .ensures) (n .if1 .left)) (sym (w .before .runs .ensures) ∙ w .if2 .left) (sym (c .before .full .ensures) ∙ c .if3 .taken)
+    place-full _ _ _ _ _ (λ i. omega (arith, k .before .before .shared-slice-known .given i)) (check-given _ _ _ (k .check-task .ensures) (e .enum-told .given .1)) (yes (n .before .number-ok .ensures) (n .if1 .left)) (sym (w .before .runs .ensures) ∙ w .if2 .left) (sym (c .before .full .ensures) ∙ c .if3 .taken)
 
 fits-at-requires : tie.Need-fits-at-requires
 fits-at-requires c κs =
     let e = c .before .before .before .before .before .before in
     let k = e .before .before in
-    check-passed _ _ _ (k .check-task .ensures) (e .enum-told .given .1)
+    check-given _ _ _ (k .check-task .ensures) (e .enum-told .given .1)
 
 returns-5 : tie.Need-returns-5
 returns-5 c =
@@ -67,7 +67,7 @@ returns-5 c =
     let n = w .before .before in
     let e = n .before .before in
     let k = e .before .before in
-    place-misfit _ _ _ _ _ (λ i. omega (arith, k .before .before .shared-slice-known .given i)) (check-passed _ _ _ (k .check-task .ensures) (e .enum-told .given .1)) (yes (n .before .number-ok .ensures) (n .if1 .left)) (sym (w .before .runs .ensures) ∙ w .if2 .left) (sym (f .before .full .ensures) ∙ f .if3 .left) (no (fits-read _ _ _ _ (k .before .before .before .fits .bottom) (c .before .fits-at .ensures)) (c .if4 .taken))
+    place-misfit _ _ _ _ _ (λ i. omega (arith, k .before .before .shared-slice-known .given i)) (check-given _ _ _ (k .check-task .ensures) (e .enum-told .given .1)) (yes (n .before .number-ok .ensures) (n .if1 .left)) (sym (w .before .runs .ensures) ∙ w .if2 .left) (sym (f .before .full .ensures) ∙ f .if3 .left) (no (fits-read _ _ _ _ (k .before .before .before .fits .bottom) (c .before .fits-at .ensures)) (c .if4 .taken))
 
 returns-6 : tie.Need-returns-6
 returns-6 c =
@@ -77,7 +77,7 @@ returns-6 c =
     let e = n .before .before in
     let k = e .before .before in
     record {
-      passed = check-passed _ _ _ (k .check-task .ensures) (e .enum-told .given .1);
+      given = check-given _ _ _ (k .check-task .ensures) (e .enum-told .given .1);
       number = yes (n .before .number-ok .ensures) (n .if1 .left);
       new = sym (w .before .runs .ensures) ∙ w .if2 .left;
       room = sym (f .before .full .ensures) ∙ f .if3 .left;

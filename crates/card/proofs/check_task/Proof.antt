@@ -41,7 +41,7 @@ returns-5 c =
     record {
       sound = yes (s .before .sound .ensures) (s .if2 .left);
       sized = yes (z .before .sized .ensures) (z .if3 .left);
-      well-formed = yes (c .before .well-formed .ensures) (c .if4 .left);
+      formed = yes (c .before .well-formed .ensures) (c .if4 .left);
     }
 
 pub check-task-spec : {M : Type 1} → statement M

@@ -11,7 +11,7 @@ cast-fits : tie.Need-cast-fits
 cast-fits c = unsigned (c .before .before .before .fits .bottom) tt (c .if1 .left)
 
 fits-requires : tie.Need-fits-requires
-fits-requires c κs = let z = c .before .before .before .pre in (z .sound, z .sized, z .well-formed)
+fits-requires c κs = let z = c .before .before .before .pre in (z .sound, z .sized, z .formed)
 
 returns-2 : tie.Need-returns-2
 returns-2 c = fits-above _ _ _ _ (c .before .before .before .before .fits .bottom) _ (c .before .if1 .left) (c .fits2 .ensures)
