@@ -3,8 +3,8 @@ pub mod Device
 pub mod Clear
 pub mod Entries
 pub mod Enter
+pub mod Leave
 pub mod Fits
 pub mod FitsLaws
 pub mod Rebuild
 pub mod RebuildLaws
-pub mod Leave

@@ -35,7 +35,7 @@ said r j = record {
 }
 
 -- r has the length of a record, and entry j is one of its running tasks
-pub record Entered (r : List ℕ) (j : ℕ) : Type 0 where
+pub record HasEntry (r : List ℕ) (j : ℕ) : Type 0 where
   pub size : length r ≡ record-size
   pub few : getD r running-at 0 ≤ max-running
   pub runs : j < getD r running-at 0
@@ -45,11 +45,6 @@ pub record Passes (r : List ℕ) (j : ℕ) : Type 0 where
   pub rises : prior 0 (book-of r) j < entry-of r j .number
   pub some-blocks : 1 ≤ block-count r j
   pub few-blocks : block-count r j ≤ max-blocks
-
--- the answer ok of these tests: where they refuse, r is not sound
-pub record Checked (r : List ℕ) (j : ℕ) (ok : Bool) : Type 0 where
-  pub passes : ok ≡ true → Passes r j
-  pub refused : ok ≡ false → sound r ≡ false
 
 -- the task t, under the number n, can be entered into the record s where it is well-formed and fits
 pub record Ready (s t : List ℕ) (n : ℕ) : Type 0 where

@@ -8,7 +8,7 @@ use mathlib.Core.List.{List, [], _∷_, _++_}
 use native.Mathlib.Omega.{arith}
 use native.Mathlib.Numerals.{add-one}
 use native.Mathlib.Nat.{add-zero, div-add-mod, mod-lt}
-use lib.Dec.{leb, ltb}
+use lib.Dec.{ltb}
 use lib.ListN.{length, getD, take, drop, length-take, length-drop}
 use lib.Seq.{take-suc, take-all, length-take-le}
 use borrow.Author.Tests.{le-leb, le-ltb, eq-eqb, ne-eqb}
@@ -34,7 +34,8 @@ use Rattle.model.specs.Laws.WriteBack.{Bytes}
 use Rattle.model.specs.Laws.ReadBack.{getD-in, device-of-record, book-of-record}
 use Rattle.model.specs.Laws.Sound.{running-said, columns-said, record-sound, sound-length, sound-within, sound-record}
 use Rattle.words.specs.Words.{Same}
-use Rattle.record.specs.Rebuild.{entry-of, prior, blocks-of, said, Entered, Passes, Checked, Ready, Tried, Rebuilt, Step}
+use Rattle.record.specs.Entries.{number-said}
+use Rattle.record.specs.Rebuild.{entry-of, prior, blocks-of, said, HasEntry, Passes, Ready, Tried, Rebuilt, Step}
 
 -- ---- the first j tasks of a book
 
@@ -110,14 +111,10 @@ module _ (d : Device) (b : Book) (j : ℕ) (q : j < length b) where
 
 -- ---- what entry j says
 
-module _ (r : List ℕ) (j : ℕ) (x : Entered r j) where
+module _ (r : List ℕ) (j : ℕ) (x : HasEntry r j) where
   entry-read : entry-of r j ≡ running-of (part r (entry-at j) entry-size)
   unfolding book-of
   entry-read = getD-list (λ j. running-of (part r (entry-at j) entry-size)) (getD r running-at 0) j no-entry (x .runs)
-
-  pub number-said : entry-of r j .number ≡ word r (entry-at j)
-  unfolding running-of
-  number-said = ap (λ (e : Running). e .number) entry-read ∙ (rw add-zero at (word-part r (entry-at j) entry-size 0 (omega arith)))
 
   -- all of it
   pub entry-said : block-count r j ≤ max-blocks → entry-of r j ≡ said r j
@@ -134,17 +131,18 @@ module _ (r : List ℕ) (j : ℕ) (x : Entered r j) where
       let e : entry-at j + blocks-at + block-size * block-count r j - (entry-at j + blocks-at) ≡ block-size * block-count r j = omega arith in
       rw e (simp (length-take, length-drop) (omega (arith, x .size)))
 
--- whether its number rises, from its number n and that of the entry before, m
-module _ (r : List ℕ) (j n : ℕ) (e : n ≡ entry-of r j .number) where
+-- whether its number n rises, from its bytes and those of the entry before it
+module _ (r : List ℕ) (j n : ℕ) (x : HasEntry r j) (e : n ≡ word r (entry-at j)) where
   pub rises-first : j ≡ 0 → ltb 0 n ≡ ltb (prior 0 (book-of r) j) (entry-of r j .number)
   unfolding prior
-  rises-first z = rw e (ap (λ (i : ℕ). ltb (prior 0 (book-of r) i) (entry-of r j .number)) (sym z))
+  rises-first z = rw (e, ← number-said r j (x .runs)) (ap (λ (i : ℕ). ltb (prior 0 (book-of r) i) (entry-of r j .number)) (sym z))
 
-  pub rises-next : (m : ℕ) → (j ≡ 0 → ⊥) → m ≡ entry-of r (j - 1) .number → ltb m n ≡ ltb (prior 0 (book-of r) j) (entry-of r j .number)
+  pub rises-next : (m : ℕ) → (j ≡ 0 → ⊥) → m ≡ word r (entry-at (j - 1)) → ltb m n ≡ ltb (prior 0 (book-of r) j) (entry-of r j .number)
   unfolding prior
   rises-next m z q =
       let k : suc (j - 1) ≡ j = omega arith in
-      rw (e, q) (ap (λ (i : ℕ). ltb (prior 0 (book-of r) i) (entry-of r j .number)) k)
+      rw (e, q, ← number-said r j (x .runs), ← number-said r (j - 1) (omega (arith, x .runs)))
+      (ap (λ (i : ℕ). ltb (prior 0 (book-of r) i) (entry-of r j .number)) k)
 
 -- whole blocks, 1 to 32 of them
 sized-of : (t : List ℕ) (n : ℕ) → length t ≡ block-size * n → 1 ≤ n → n ≤ max-blocks → sized t ≡ true
@@ -152,12 +150,12 @@ unfolding sized
 sized-of t n e one most =
     rw (ne-eqb (length t) 0 (λ z. omega arith), le-leb (length t) (block-size * max-blocks) (omega arith)) (eq-eqb (length t % block-size) 0 (omega arith))
 
-pub blocks-sized : (r : List ℕ) (j : ℕ) → Entered r j → 1 ≤ block-count r j → block-count r j ≤ max-blocks → sized (blocks-of r j) ≡ true
+pub blocks-sized : (r : List ℕ) (j : ℕ) → HasEntry r j → 1 ≤ block-count r j → block-count r j ≤ max-blocks → sized (blocks-of r j) ≡ true
 blocks-sized r j x one most = sized-of (blocks-of r j) (block-count r j) (blocks-length r j x most) one most
 
 -- ---- in a sound record entry j passes the tests
 
-module _ (r : List ℕ) (j : ℕ) (x : Entered r j) (s : sound r ≡ true) where
+module _ (r : List ℕ) (j : ℕ) (x : HasEntry r j) (s : sound r ≡ true) where
   in-book : j < length (book-of r)
   in-book = omega (arith, running-said r, x .runs)
 
@@ -181,21 +179,18 @@ module _ (r : List ℕ) (j : ℕ) (x : Entered r j) (s : sound r ≡ true) where
   sound-fits = rw (entry-said r j x (count-sound .1)) at (fits-among (device-of r) (book-of r) j in-book (sound-within r s))
 
 -- so where a test fails, the record is not sound
-module _ (r : List ℕ) (j : ℕ) (x : Entered r j) where
-  refuse : ¬ Passes r j → Checked r j false
-  refuse h = record { passes = λ e. absurd (false≢true e); refused = λ e. is-false (sound r) (λ s. h (sound-passes r j x s)) }
+module _ (r : List ℕ) (j : ℕ) (x : HasEntry r j) where
+  pub refused-number : (ok : Bool) → ok ≡ ltb (prior 0 (book-of r) j) (entry-of r j .number) → ok ≡ false → sound r ≡ false
+  refused-number ok e f = is-false (sound r) (λ s. let h = sym e ∙ f in let q = sound-passes r j x s .rises in omega tests)
 
-  pub refused-number : (ok : Bool) → ok ≡ ltb (prior 0 (book-of r) j) (entry-of r j .number) → ok ≡ false → Checked r j false
-  refused-number ok e f = refuse (λ p. let h = sym e ∙ f in let q = p .rises in omega tests)
+  pub refused-none : (n : ℕ) → n ≡ block-count r j → n ≡ 0 → sound r ≡ false
+  refused-none n e h = is-false (sound r) (λ s. omega (arith, sound-passes r j x s .some-blocks))
 
-  pub refused-none : block-count r j ≡ 0 → Checked r j false
-  refused-none h = refuse (λ p. omega (arith, p .some-blocks))
+  pub refused-many : (n : ℕ) → n ≡ block-count r j → max-blocks < n → sound r ≡ false
+  refused-many n e h = is-false (sound r) (λ s. omega (arith, sound-passes r j x s .few-blocks))
 
-  pub checked : (ok : Bool) → ok ≡ ltb (prior 0 (book-of r) j) (entry-of r j .number) → ok ≡ true → ¬ (block-count r j ≡ 0) → Checked r j (leb (block-count r j) max-blocks)
-  checked ok e t some = record {
-    passes = λ f. let h = sym e ∙ t in record { rises = omega tests; some-blocks = omega arith; few-blocks = omega tests };
-    refused = λ f. is-false (sound r) (λ s. let p = sound-passes r j x s .few-blocks in omega tests);
-  }
+  pub passes : (ok : Bool) → ok ≡ ltb (prior 0 (book-of r) j) (entry-of r j .number) → ok ≡ true → (n : ℕ) → n ≡ block-count r j → (n ≡ 0 → ⊥) → n ≤ max-blocks → Passes r j
+  passes ok e t n c some few = let h = sym e ∙ t in record { rises = omega tests; some-blocks = omega arith; few-blocks = omega arith }
 
 -- ---- a task is tried
 
@@ -229,7 +224,7 @@ module _ (r s : List ℕ) (j : ℕ) (m : Rebuilt r s j) where
   scratch-book : book-of s ≡ take j (book-of r)
   scratch-book = ap book-of (m .bytes) ∙ book-of-record (device-of r) (take j (book-of r)) (m .limits)
 
-  module _ (x : Entered r j) (t : Passes r j) where
+  module _ (x : HasEntry r j) (t : Passes r j) where
     in-book-still : j < length (book-of r)
     in-book-still = omega (arith, running-said r, x .runs)
 
@@ -237,11 +232,15 @@ module _ (r s : List ℕ) (j : ℕ) (m : Rebuilt r s j) where
     below-number f i =
         omega (arith, t .rises, prior-above 0 (book-of r) j (limits-to (device-of r) (take j (book-of r)) (m .limits) .rising) (omega (arith, in-book-still)) f i)
 
-    module _ (small : word r (entry-at j) < words) where
+    module _ (B : Bytes r) where
+      small : word r (entry-at j) < words
+      unfolding word
+      small = omega (arith, B (entry-at j), B (entry-at j + 1))
+
       number-fits : number-ok (word r (entry-at j)) ≡ true
       unfolding number-ok
       number-fits =
-          rw (le-leb 1 (word r (entry-at j)) (omega (arith, t .rises, number-said r j x))) (le-leb (word r (entry-at j)) max-number (omega arith))
+          rw (le-leb 1 (word r (entry-at j)) (omega (arith, t .rises, number-said r j (x .runs)))) (le-leb (word r (entry-at j)) max-number (omega (arith, small)))
 
       -- entry j can be entered
       pub entry-ready : Ready s (blocks-of r j) (word r (entry-at j))
@@ -261,13 +260,13 @@ module _ (r s : List ℕ) (j : ℕ) (m : Rebuilt r s j) where
           let is = entry-said r j x (t .few-blocks) in
           let f : fits d (take j b) (y .task) (y .column) (y .bottom) ≡ true = rw is (rw (scratch-device, scratch-book) at (v .fitted refl)) in
           let more : insert y (take j b) ≡ take n b = rw (k, add-one) (insert-last y (take j b) below-number ∙ sym (take-suc b j no-entry in-book-still)) in
-          let number = number-said r j x in
+          let number = number-said r j (x .runs) in
           record {
             bytes = v .entered refl ∙ (rw (scratch-device, scratch-book, ← is) (ap (record-of d) more));
             limits = rw more at (insert-within d (take j b) (m .limits) y (rw scratch-book at (entry-ready .room))
                 (record {
                   number-one = omega (arith, t .rises);
-                  number = omega arith;
+                  number = omega (arith, small);
                   sized = rw is (entry-ready .sized);
                   well-formed = rw is (v .formed refl);
                   fits = fits-split d (take j b) (y .task) (y .column) (y .bottom) .0 f .0;

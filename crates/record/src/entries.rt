@@ -46,7 +46,7 @@ pub struct Entry {
 }
 
 // The task number of entry j.
-fn number_at(record: &[u8], j: usize) -> u32
+pub fn number_at(record: &[u8], j: usize) -> u32
     requires { ⌜ (length (now «record») ≡ record-size) × (j < max-running) ⌝ }
     ensures { λ r. ⌜ r ≡ word (now («record» .entry)) (entry-at j) ⌝ }
 {

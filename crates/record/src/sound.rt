@@ -2,12 +2,10 @@
 use crate::clear::clear;
 use crate::device::device_ok;
 use crate::enter::enter;
+use crate::entries::number_at;
+use crate::entries::read_entry;
 use crate::fits::fits;
-use model::BLOCK_SIZE;
-use model::BLOCKS_AT;
 use model::COLUMNS_AT;
-use model::ENTRIES_AT;
-use model::ENTRY_SIZE;
 use model::KINDS_AT;
 use model::MAX_BLOCKS;
 use model::MAX_COLUMNS;
@@ -26,26 +24,11 @@ ghost use lib.Dec.{ltb};
 ghost use Rattle.model.specs.Limits.{record-size, running-at};
 ghost use Rattle.model.specs.Record.{book-of};
 ghost use Rattle.model.specs.Sound.{sound};
-ghost use Rattle.record.specs.Rebuild.{entry-of, prior, Entered, Checked, Ready, Tried, Rebuilt, Step};
-
-// Where the fields of an entry stand in its bytes.
-const COLUMN_AT: usize = 2;
-
-const COUNT_AT: usize = 3;
-
-const BOTTOM_AT: usize = 4;
-
-// The number of running entry j.
-fn number_at(record: &[u8], j: usize) -> u32
-    requires { ⌜ Entered (now «record») j ⌝ }
-    ensures { λ r. ⌜ r ≡ entry-of (now («record» .entry)) j .number ⌝ }
-{
-    get16(record, ENTRIES_AT + ENTRY_SIZE * j)
-}
+ghost use Rattle.record.specs.Rebuild.{entry-of, prior, HasEntry, Ready, Tried, Rebuilt, Step};
 
 // Whether the number of running entry j is above that of the entry before it, and the first is 1 or more.
 fn rises(record: &[u8], j: usize) -> bool
-    requires { ⌜ Entered (now «record») j ⌝ }
+    requires { ⌜ HasEntry (now «record») j ⌝ }
     ensures { λ r. ⌜ r ≡ ltb (prior 0 (book-of (now («record» .entry))) j) (entry-of (now («record» .entry)) j .number) ⌝ }
 {
     let number = number_at(record, j);
@@ -53,22 +36,6 @@ fn rises(record: &[u8], j: usize) -> bool
         return 0 < number;
     }
     number_at(record, j - 1) < number
-}
-
-// Whether running entry j has a number that rises, and 1 to 32 blocks.
-fn entry_ok(record: &[u8], j: usize) -> bool
-    requires { ⌜ Entered (now «record») j ⌝ }
-    ensures { λ r. ⌜ Checked (now («record» .entry)) j r ⌝ }
-{
-    if !rises(record, j) {
-        return false;
-    }
-    let at = ENTRIES_AT + ENTRY_SIZE * j;
-    let count = wide(record[at + COUNT_AT]) as usize;
-    if count == 0 {
-        return false;
-    }
-    count <= MAX_BLOCKS
 }
 
 // Enters a task into the scratch record, if it is well-formed and fits there.
@@ -86,21 +53,31 @@ fn enter_task(scratch: &mut [u8], task: &[u8], number: u32, column: u32, bottom:
     true
 }
 
-// Enters running entry j into the scratch record. Its blocks are handed on as a part of the record from its seventh byte on.
+// Enters running entry j into the scratch record. Its blocks are handed on as a part of the record, from the entry's seventh byte on.
 fn enter_entry(scratch: &mut [u8], record: &[u8], j: usize) -> bool
-    requires { ⌜ Entered (now «record») j × Rebuilt (now «record») (now scratch) j ⌝ }
+    requires { ⌜ HasEntry (now «record») j × Rebuilt (now «record») (now scratch) j ⌝ }
     ensures { λ r. ⌜ Step (now («record» .entry)) (now (scratch .exit)) (j + 1) r ⌝ }
 {
-    if !entry_ok(record, j) {
+    if !rises(record, j) {
         return false;
     }
-    let at = ENTRIES_AT + ENTRY_SIZE * j;
-    let a = at + BLOCKS_AT;
-    let e = a + BLOCK_SIZE * wide(record[at + COUNT_AT]) as usize;
-    let number = get16(record, at);
-    let column = wide(record[at + COLUMN_AT]);
-    let bottom = get16(record, at + BOTTOM_AT);
-    enter_task(scratch, &record[a..e], number, column, bottom)
+    let entry = read_entry(record, j);
+    if entry.count == 0 {
+        return false;
+    }
+    if entry.count > MAX_BLOCKS {
+        return false;
+    }
+    let from = entry.from;
+    let to = entry.to;
+    let number = number_at(record, j);
+    enter_task(
+        scratch,
+        &record[from..to],
+        number,
+        entry.column,
+        entry.bottom,
+    )
 }
 
 // Enters all running entries into the scratch record, up to the first that fails a test.

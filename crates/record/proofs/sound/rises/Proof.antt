@@ -8,7 +8,7 @@ number-at-requires : tie.Need-number-at-requires
 number-at-requires c κs = search needs
 
 returns : tie.Need-returns
-returns c = rises-first _ _ _ (c .before .number-at .ensures) (c .if1 .taken)
+returns c = let n = c .before in rises-first _ _ _ (n .before .before .pre) (n .number-at .ensures) (c .if1 .taken)
 
 sub-number-at : tie.Need-sub-number-at
 sub-number-at c = search needs
@@ -17,7 +17,10 @@ number-at-requires-2 : tie.Need-number-at-requires-2
 number-at-requires-2 c κs = search needs
 
 returns-2 : tie.Need-returns-2
-returns-2 c = let e = c .before in rises-next _ _ _ (e .before .number-at .ensures) _ (e .if1 .left) (c .number-at2 .ensures)
+returns-2 c =
+    let e = c .before in
+    let n = e .before in
+    rises-next _ _ _ (n .before .before .pre) (n .number-at .ensures) _ (e .if1 .left) (c .number-at2 .ensures)
 
 pub rises-spec : {M : Type 1} → statement M
 rises-spec =
