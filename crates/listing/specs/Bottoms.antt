@@ -10,11 +10,11 @@ use Rattle.runs.specs.Intervals.{Interval, Multiple}
 use Rattle.runs.specs.declared.Range.{Range}
 use Rattle.model.specs.Limits.{reach, max-rows}
 use Rattle.model.specs.Columns.{Device, height}
-use Rattle.model.specs.Tasks.{Block, block}
+use Rattle.model.specs.Tasks.{block}
 use Rattle.model.specs.Book.{Book, block-fits}
 
 abbrev pub lift : ℕ
-lift = 512
+lift = 2 * reach
 
 -- a run of lifted bottoms, as it is
 abbrev pub lowered : Run → Run

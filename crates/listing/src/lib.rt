@@ -8,7 +8,7 @@ use task::Block;
 ghost use mathlib.Core.Path.{_≡_};
 ghost use mathlib.Core.Bool.{true};
 ghost use mathlib.Core.List.{map};
-ghost use Prim.Native.Nat.{ℕ, _+_, _-_, _*_, _≤_, _<_};
+ghost use Prim.Native.Nat.{_+_, _-_, _*_, _≤_, _<_};
 ghost use lib.ListN.{length, getD};
 ghost use Rattle.runs.specs.Runs.{run, push};
 ghost use Rattle.runs.specs.Meet.{Step, Lcm};
@@ -22,7 +22,7 @@ ghost use Rattle.model.specs.Listing.{range-of};
 ghost use Rattle.model.specs.Record.{device-of, book-of};
 ghost use Rattle.model.specs.Calls.{range-bytes};
 ghost use Rattle.model.specs.Laws.Parts.{splice};
-ghost use Rattle.listing.specs.Bottoms.{lift, lowered, range-in};
+ghost use Rattle.listing.specs.Bottoms.{lowered, range-in};
 ghost use Rattle.listing.specs.Arrays.{max-runs, read, Room, Lowerable, Pushable, Puttable, Joined, IntervalAt, Meetable, Met as MetBlock};
 ghost use Rattle.listing.specs.Columns.{Given, OfKind, OnAll, Liftable, Startable, Started, LiftedTo, Nextable, Lifted, Ranged};
 ghost use Rattle.listing.specs.Output.{Writable, AllWritable, column-bytes, Answers};
@@ -34,7 +34,10 @@ pub enum Listed {
 }
 
 // Bottoms are kept this much above their value, so that a block far above the first gives no negative number.
-const LIFT: u32 = 512;
+const LIFT: u32 = 2 * model::REACH;
+
+// A column has at most this many runs.
+const MAX_RUNS: usize = model::MAX_INTERVALS;
 
 // How many runs a list has, and their step.
 struct Runs {
@@ -282,8 +285,8 @@ fn lifted_bottoms(
     requires { ⌜ Liftable (now «record») (now task) p × Room (now firsts) (now lasts) ⌝ }
     ensures { λ n. ⌜ Lifted (now («record» .entry)) (now (task .entry)) p (now (firsts .exit)) (now (lasts .exit)) n ⌝ }
 {
-    let mut lows = [0u32; 64];
-    let mut highs = [0u32; 64];
+    let mut lows = [0u32; MAX_RUNS];
+    let mut highs = [0u32; MAX_RUNS];
     let count = task.len() / model::BLOCK_SIZE;
     let mut list = start_list(task, firsts, lasts);
     let mut k: usize = 0;
@@ -360,13 +363,13 @@ pub fn list(record: &[u8], task: &[u8], output: &mut [u8]) -> Listed
     requires { ⌜ Given (now «record») (now task) × (list-room ≤ length (now output)) ⌝ }
     ensures { λ a. ⌜ Answers a (device-of (now («record» .entry))) (book-of (now («record» .entry))) (now (task .entry)) (now (output .entry)) (now (output .exit)) ⌝ }
 {
-    let mut firsts = [0u32; 64];
-    let mut lasts = [0u32; 64];
-    let columns = byte(record, model::COLUMNS_AT);
+    let mut firsts = [0u32; MAX_RUNS];
+    let mut lasts = [0u32; MAX_RUNS];
+    let last = byte(record, model::COLUMNS_AT) - 1;
     let step = task::step(task);
     let mut n: usize = 0;
     let mut p: usize = 0;
-    while p < columns {
+    while p <= last {
         let count = column_ranges(record, task, p, &mut firsts, &mut lasts);
         write_ranges(output, n, p, step, &firsts, &lasts, count);
         n += count;
@@ -375,5 +378,6 @@ pub fn list(record: &[u8], task: &[u8], output: &mut [u8]) -> Listed
     if n == 0 {
         return Listed::NoPosition;
     }
-    Listed::Ranges(n as u32)
+    let answer = n as u32;
+    Listed::Ranges(answer)
 }

@@ -1,35 +1,29 @@
 -- `listing::list` meets its contract: the ranges of the columns below p are written, n of them. Assumes nothing.
-use Prim.Native.Nat.{_-_, _≤_, _<_}
+use Prim.Native.Nat.{_+_, _-_, _≤_, _<_}
 use mathlib.Core.Path.{refl, sym, _∙_}
 use native.Mathlib.Omega.{arith}
 use Rattle.model.specs.Columns.{columns}
 use Rattle.model.specs.Record.{device-of}
 use Rattle.model.specs.Laws.Sound.{columns-said, sound-length}
 use Rattle.listing.specs.Arrays.{Room}
-use Rattle.listing.specs.Laws.Column.{few-columns}
+use Rattle.listing.specs.Laws.Column.{some-columns, few-columns}
 use Rattle.listing.specs.Laws.Output.{Written, written-none, written-length, all-writable, written-next, answer-none, answer-some, few-ranges}
 use Rattle.listing.proofs.list.Statement.{statement}
 use Rattle.listing.proofs.list.Tie as tie
-use Rattle.listing.proofs.list.Reads as reads
-use Rattle.listing.proofs.list.Lts as lts
-use Rattle.listing.proofs.byte.Reads as byte-reads
-use Rattle.listing.proofs.column_ranges.Reads as column-ranges-reads
-use Rattle.listing.proofs.write_ranges.Reads as write-ranges-reads
-use Rattle.task.proofs.step.Reads as step-reads
 
 abbrev Inv-loop : tie.InvT-loop
-Inv-loop «record» task output₀ firsts₀ lasts₀ columns step n₀ p₀ output firsts lasts n p =
+Inv-loop «record» task output₀ firsts₀ lasts₀ last step n₀ p₀ output firsts lasts n p =
     Written «record» task output₀ p n output × Room firsts lasts
 
 abbrev μ-loop : tie.MeasureT-loop
-μ-loop «record» task output₀ firsts₀ lasts₀ columns step n₀ p₀ output firsts lasts n p = columns - p
+μ-loop «record» task output₀ firsts₀ lasts₀ last step n₀ p₀ output firsts lasts n p = last + 1 - p
 
 -- column p is on the device, and after the loop it is past it
 on : (c : tie.In-loop Inv-loop μ-loop) → c .before .loop .p < columns (device-of (c .before .before .before .before .before .before .before .args .«record» .now))
-on c = omega (arith, c .loop-test .taken, c .before .before .before .byte .ensures .is, columns-said (c .before .before .before .before .before .before .before .args .«record» .now))
+on c = omega (arith, c .loop-test .taken, c .before .before .before .byte .ensures .is, columns-said (c .before .before .before .before .before .before .before .args .«record» .now), some-columns (c .before .before .before .before .before .before .before .args .«record» .now) (c .before .before .before .before .before .before .before .pre .0 .sound))
 
 past : (c : tie.After-loop Inv-loop μ-loop) → columns (device-of (c .before .before .before .before .before .before .before .args .«record» .now)) ≤ c .before .loop .p
-past c = omega (arith, c .loop-test .left, c .before .before .before .byte .ensures .is, columns-said (c .before .before .before .before .before .before .before .args .«record» .now))
+past c = omega (arith, c .loop-test .left, c .before .before .before .byte .ensures .is, columns-said (c .before .before .before .before .before .before .before .args .«record» .now), some-columns (c .before .before .before .before .before .before .before .args .«record» .now) (c .before .before .before .before .before .before .before .pre .0 .sound))
 
 -- the arrays keep their lengths
 room : (c : tie.After-column-ranges Inv-loop μ-loop) → Room (c .column-ranges .last .1 .1 .1 .0) (c .column-ranges .last .1 .1 .1 .1 .0)
@@ -37,6 +31,11 @@ room c = record { firsts = c .column-ranges .kept .1 .1 .1 .0 ∙ c .before .bef
 
 byte-requires : tie.Need-byte-requires Inv-loop μ-loop
 byte-requires c κs = omega (arith, sound-length (c .before .before .before .args .«record» .now) (c .before .before .before .pre .0 .sound))
+
+sub-last : tie.Need-sub-last Inv-loop μ-loop
+sub-last c =
+    let s = c .before .before .before .before in
+    omega (arith, c .byte .ensures .is, columns-said (s .args .«record» .now), some-columns (s .args .«record» .now) (s .pre .0 .sound))
 
 step-requires : tie.Need-step-requires Inv-loop μ-loop
 step-requires c κs = tt
@@ -95,8 +94,8 @@ same-length c = let s = c .before .before .before .before .before .before .befor
 returns : tie.Need-returns Inv-loop μ-loop
 returns c = let s = c .before .before .before .before .before .before .before .before in answer-none (s .args .«record» .now) (s .args .task .now) (s .pre .0) (s .args .output .now) (s .pre .1) (c .before .before .loop .p) (c .before .before .loop .n) (c .before .before .loop .output) (past (c .before)) (c .before .before .loop .inv .0) (c .if1 .taken)
 
-cast-t24 : tie.Need-cast-t24 Inv-loop μ-loop
-cast-t24 c = let s = c .before .before .before .before .before .before .before .before in omega (arith, few-ranges (s .args .«record» .now) (s .args .task .now) (s .pre .0) (s .args .output .now) (s .pre .1) (c .before .before .loop .p) (c .before .before .loop .n) (c .before .before .loop .output) (c .before .before .loop .inv .0))
+cast-answer : tie.Need-cast-answer Inv-loop μ-loop
+cast-answer c = let s = c .before .before .before .before .before .before .before .before in omega (arith, few-ranges (s .args .«record» .now) (s .args .task .now) (s .pre .0) (s .args .output .now) (s .pre .1) (c .before .before .loop .p) (c .before .before .loop .n) (c .before .before .loop .output) (c .before .before .loop .inv .0))
 
 same-length-2 : tie.Need-same-length-2 Inv-loop μ-loop
 same-length-2 c = let s = c .before .before .before .before .before .before .before .before in written-length (s .args .«record» .now) (s .args .task .now) (s .pre .0) (s .args .output .now) (s .pre .1) (c .before .before .loop .p) (c .before .before .loop .n) (c .before .before .loop .output) (c .before .before .loop .inv .0)
@@ -111,6 +110,7 @@ list-spec =
     Inv-loop
     μ-loop
     byte-requires
+    sub-last
     step-requires
     loop-holds
     slice-aggregate-column-ranges
@@ -125,6 +125,6 @@ list-spec =
     loop-again
     same-length
     returns
-    cast-t24
+    cast-answer
     same-length-2
     returns-2)

@@ -7,9 +7,6 @@ use Rattle.listing.specs.Laws.Output.{range-written}
 use borrow.Author.Needs.{needs}
 use Rattle.listing.proofs.write_range.Statement.{statement}
 use Rattle.listing.proofs.write_range.Tie as tie
-use Rattle.listing.proofs.write_range.Reads as reads
-use Rattle.listing.proofs.write_range.Lts as lts
-use Rattle.words.proofs.put16.Reads as put16-reads
 
 mul-at : tie.Need-mul-at
 mul-at c = search needs

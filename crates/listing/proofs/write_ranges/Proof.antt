@@ -5,9 +5,6 @@ use native.Mathlib.Omega.{arith}
 use Rattle.listing.specs.Laws.Output.{Writing, writing-start, writing-length, writable, writing-next}
 use Rattle.listing.proofs.write_ranges.Statement.{statement}
 use Rattle.listing.proofs.write_ranges.Tie as tie
-use Rattle.listing.proofs.write_ranges.Reads as reads
-use Rattle.listing.proofs.write_ranges.Lts as lts
-use Rattle.listing.proofs.write_range.Reads as write-range-reads
 
 abbrev Inv-loop : tie.InvT-loop
 Inv-loop output₀ n column step firsts lasts count i₀ output i =

@@ -1,5 +1,5 @@
 -- The bottoms of the first blocks of a task: none met, one block more, and all. At the end they are, lowered again, the model's ranges. Assumes nothing.
-use Prim.Native.Nat.{ℕ, zero, suc, _+_, _-_, _*_, _/_, _%_, _≤_, _<_, max}
+use Prim.Native.Nat.{ℕ, zero, suc, _+_, _-_, _*_, _/_, _≤_, _<_, max}
 use mathlib.Core.Path.{_≡_, refl, sym, ap, _∙_}
 use mathlib.Core.Logic.{_⊎_, inl, inr}
 use mathlib.Core.Bool.{Bool, true, false, not, cond}
@@ -7,30 +7,29 @@ use mathlib.Core.List.{List, [], _∷_, map}
 use native.Mathlib.Nat.{mul-comm, mul-assoc, mul-le-mul-right, div-add-mod', mod-lt}
 use native.Mathlib.Omega.{arith}
 use lib.Dec.{eqb}
-use lib.ListN.{length}
 use borrow.Author.Tests.{not-true}
 use Rattle.runs.specs.Laws.Tests.{lt-or-ge}
-use Rattle.runs.specs.Runs.{Run, run, Steps, In, Mem, From, Canon, Lists, runs}
-use Rattle.runs.specs.Laws.Runs.{mem-ge, lists-runs}
+use Rattle.runs.specs.Runs.{Run, run, Steps, In, Mem, From, Lists, runs}
+use Rattle.runs.specs.Laws.Runs.{lists-runs}
 use Rattle.runs.specs.Intervals.{Interval, Apart, Multiple, OnGrid, intervals as maximal-runs}
 use Rattle.runs.specs.Laws.Intervals.{intervals-free}
 use Rattle.runs.specs.Meet.{Lcm}
-use Rattle.runs.specs.Laws.Both.{from-weaken, from-least, count-above, Spaced, Meeting}
-use Rattle.model.specs.Limits.{reach, max-rows, max-intervals}
-use Rattle.model.specs.Bounded.{any-below, all-below}
+use Rattle.runs.specs.Laws.Both.{from-weaken, from-least, Spaced, Meeting}
+use Rattle.model.specs.Limits.{reach, max-rows}
+use Rattle.model.specs.Bounded.{any-below}
 use Rattle.model.specs.Columns.{Device, half-rows, height, kind-C, columns, kind, cells}
-use Rattle.model.specs.Tasks.{Block, blocks, block, step, well-formed}
+use Rattle.model.specs.Tasks.{blocks, block, step, well-formed}
 use Rattle.model.specs.Book.{Book, free, block-fits, fits, intervals, cell-free}
 use Rattle.model.specs.Sound.{within}
 use Rattle.model.specs.Laws.Bounded.{any-to, any-of-one, is-false, clash, all-to, all-of}
-use Rattle.model.specs.Laws.Columns.{height-two, height-pos}
-use Rattle.model.specs.Laws.Tasks.{Solid, solid-block, first-block}
+use Rattle.model.specs.Laws.Columns.{height-pos}
+use Rattle.model.specs.Laws.Tasks.{solid-block, first-block}
 use Rattle.model.specs.Laws.Fits.{fitting-to, fits-to, fits-below}
 use Rattle.model.specs.Laws.Steps.{fits-steps, step-two}
-use Rattle.model.specs.Laws.Limits.{Limits, limits-to}
+use Rattle.model.specs.Laws.Limits.{limits-to}
 use Rattle.model.specs.Laws.Cells.{scaled, intervals-cells}
 use Rattle.listing.specs.Bottoms.{lift, lowered, bottoms, Stand, Common, Standing}
-use Rattle.listing.specs.Laws.Bottoms.{multiple-sub, multiple-mod, Stood, bottoms-to, bottoms-of, whole-cells, fits-stood, stood-fits}
+use Rattle.listing.specs.Laws.Bottoms.{multiple-sub, multiple-mod, bottoms-to, bottoms-of, whole-cells, fits-stood, stood-fits}
 
 -- ---- the intervals of a column
 

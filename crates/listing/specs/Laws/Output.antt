@@ -1,14 +1,13 @@
 -- The laws of the bytes of a listing. Assumes nothing.
-use Prim.Native.Nat.{ℕ, zero, suc, _+_, _-_, _*_, _≤_, _<_}
+use Prim.Native.Nat.{ℕ, _+_, _*_, _≤_, _<_}
 use mathlib.Core.Path.{_≡_, refl, sym, ap, ap₂, _∙_}
-use mathlib.Core.Bool.{Bool, true, false}
-use mathlib.Core.List.{List, [], _∷_, _++_, map, append-assoc, append-nil}
+use mathlib.Core.List.{List, [], _∷_, _++_, map, append-nil}
 use native.Mathlib.Omega.{arith}
 use native.Mathlib.Numerals.{add-one}
-use lib.ListN.{length, getD, set, take, drop, length-append, length-map}
+use lib.ListN.{length, getD, set, length-append, length-map}
 use Rattle.runs.specs.Runs.{Run, run}
 use Rattle.runs.specs.Laws.Runs.{runs-lists}
-use Rattle.model.specs.Limits.{words, max-rows, max-columns, range-size, list-room}
+use Rattle.model.specs.Limits.{words, max-columns, range-size, list-room}
 use Rattle.model.specs.Bounded.{join-in, join-below}
 use Rattle.model.specs.Columns.{columns, half-rows}
 use Rattle.model.specs.Tasks.{step}
@@ -22,7 +21,7 @@ use Rattle.model.specs.Laws.Listing.{map-append, join-append}
 use Rattle.model.specs.Laws.Limits.{limits-to}
 use Rattle.model.specs.Laws.Steps.{fits-steps}
 use Rattle.model.specs.Laws.NoPosition.{ranges-none-iff}
-use Rattle.model.specs.Laws.Sound.{columns-said, sound-within}
+use Rattle.model.specs.Laws.Sound.{sound-within}
 use Rattle.listing.specs.Arrays.{max-runs, read, Room}
 use Rattle.listing.specs.Columns.{Given, column-runs, Ranged}
 use Rattle.listing.specs.Output.{Writable, AllWritable, column-bytes, ranges-below, Answers}
