@@ -6,7 +6,7 @@ use mathlib.Core.Bool.{Bool, true, false, not}
 use mathlib.Core.Option.{some, none}
 use mathlib.Core.List.{List, []}
 use native.Mathlib.Omega.{arith}
-use borrow.Author.Tests.{not-true, not-false, lt-leb, le-leb, leb-false, eqb-true, eqb-false, ltb-true, ltb-false}
+use borrow.Author.Tests.{not-true, not-false, lt-leb, le-leb, leb-false, eqb-true, eqb-false, ltb-true, ltb-false, lt-ltb, le-ltb}
 use lib.Dec.{T, leb, ltb, eqb, leb·suc-zero}
 use lib.IntN.{ℤ, pos, negsuc, natAbs, negℤ}
 use lib.ListN.{length, getD, take, drop}
@@ -15,26 +15,34 @@ use mir.Syntax.{w32}
 use mir.Val.{Fits, SFits, toZ, ofZ}
 use mir.Facts.{toZ-ofZ, toZ-pos}
 use Rattle.signed.proofs.Signed.{negative, natural as natural-is, unsigned}
-use Rattle.model.specs.Limits.{max-columns, max-intervals, max-running, max-number, record-size, columns-at, running-at, counts-at, interval-size}
+use Rattle.model.specs.Limits.{max-rows, max-columns, max-intervals, max-running, max-number, record-size, columns-at, running-at, counts-at, interval-size, list-room, column-weight}
 use Rattle.model.specs.Columns.{Device, columns}
 use Rattle.model.specs.Tasks.{sized, well-formed}
 use Rattle.model.specs.Book.{Running, Book, fits, fits-at, intervals}
+use Rattle.model.specs.Choice.{Found as Place}
 use Rattle.model.specs.Record.{record-of, device-of, book-of, part, column-at}
 use Rattle.model.specs.Sound.{sound, number-ok, count-of}
-use Rattle.model.specs.Calls.{Call, list, choose, place, release, Outcome, lent, refused, refusals, insert, without, natural, runs-in, done}
+use Rattle.model.specs.Calls.{Call, list, choose, place, release, Outcome, lent, refused, refusals, insert, without, natural, runs-in, position-number, done}
 use Rattle.model.specs.OnRecord.{written, on-record, interval-count, view-of, view}
 use Rattle.model.specs.Laws.Bounded.{clash}
 use Rattle.model.specs.Laws.WriteBack.{Bytes}
 use Rattle.model.specs.Laws.Limits.{limits-to}
 use Rattle.model.specs.Laws.Cells.{few-intervals}
+use Rattle.model.specs.Laws.Listing.{ranges-length}
 use Rattle.model.specs.Laws.Record.{record-count}
 use Rattle.model.specs.Laws.Sound.{columns-said, running-said, sound-within, sound-record}
 use Rattle.model.specs.Laws.OnRecord.{wrong-length-call, not-sound-call, refused-call, done-call, count-wrong-length, count-not-sound, count-no-column, count-done}
 use Rattle.listing.specs.Columns.{Given}
-use Rattle.record.specs.Entries.{Finds, runs-at}
+use Rattle.record.specs.Entries.{Finds, found-true}
 use Rattle.record.specs.Enter.{Placeable}
 use Rattle.record.specs.declared.entries.Found.{Found}
 use Rattle.record.specs.declared.entries.Found.the-variants.{At, Nowhere}
+use Rattle.listing.specs.Output.{Answers}
+use Rattle.listing.specs.declared.Listed.{Listed}
+use Rattle.listing.specs.declared.Listed.the-variants.{Ranges, NoPosition}
+use Rattle.choice.specs.Choosing.{Chooses}
+use Rattle.choice.specs.declared.Best.{Best}
+use Rattle.choice.specs.declared.Best.the-variants.{Nothing, At as BestAt}
 use Rattle.card.specs.declared.Check.{Check}
 use Rattle.card.specs.declared.Check.the-variants.{Pass, Refuse}
 use Rattle.card.specs.Leaves.{Changes, Writes, Refused, HasTask, ChecksTask, Placing, ChecksPlace}
@@ -69,7 +77,7 @@ number-some n h = rw (le-leb 1 n h)
 
 -- a search for a number says whether it runs
 pub found-some : (b : Book) (n k : ℕ) (f : Found) → Finds b n f → f ≡ At k → true ≡ runs-in b n
-found-some b n k f h e = let (l, m) = rw e at h in rw (← m) (sym (runs-at b k l))
+found-some b n k f h e = sym (found-true b n k (rw e at h))
 
 pub found-none : (b : Book) (n : ℕ) (f : Found) → Finds b n f → f ≡ Nowhere → false ≡ runs-in b n
 found-none b n f h e = sym (rw e at h)
@@ -191,6 +199,66 @@ unfolding refused refusals written done natural
 place-done r t n p y k x e =
     let z = x .given in
     done-call r (place t n p y) (z .sound) (rw (z .sized, z .formed, x .number, x .new, x .room, x .fits)) ∙ rw e
+
+-- ---- list
+
+-- a refusal of the task's is one of list
+pub list-refused : (r t o : List ℕ) {z : ℤ} (x : Check) → ChecksTask r t x → x ≡ Refuse z → Writes (on-record r (list t o)) z o
+unfolding lent
+list-refused r t o x h e = writes ((rw e at h) (list t o) refl)
+
+module _ (r t o : List ℕ) (x : Given r t) where
+  pub list-short : Bytes r → length o < list-room → Writes (on-record r (list t o)) (negsuc 5) o
+  unfolding refused refusals lent
+  list-short B h = writes (refused-call r (list t o) (x .sound) B 6 (rw (x .sized, x .formed, lt-ltb (length o) list-room h)))
+
+  module _ (l : list-room ≤ length o) (a : Listed) (p : List ℕ) (h : Answers a (device-of r) (book-of r) t o p) where
+    pub list-none : Bytes r → a ≡ NoPosition → Writes (on-record r (list t o)) (negsuc 8) p
+    unfolding refused refusals lent
+    list-none B e =
+        let (nowhere, same) = rw e at h in
+        rw same (writes (refused-call r (list t o) (x .sound) B 9 (rw (x .sized, x .formed, le-ltb (length o) list-room l, nowhere))))
+
+    -- there are at most 64 ranges in each column
+    few-listed : (n : ℕ) → a ≡ Ranges n → n ≤ max-intervals * max-columns
+    few-listed n e =
+        let w = sound-within r (x .sound) in
+        let cols = limits-to (device-of r) (book-of r) w .columns in
+        omega (arith, (rw e at h) .0, ranges-length (device-of r) (book-of r) t (x .sized) w)
+
+    pub list-fits : (n : ℕ) → a ≡ Ranges n → SFits w32 (pos n)
+    list-fits n e = record { sfits = omega (arith, few-listed n e) }
+
+    pub list-done : (n : ℕ) → a ≡ Ranges n → Writes (on-record r (list t o)) (toZ w32 n) p
+    unfolding refused refusals written done
+    list-done n e =
+        let (count, bytes, some-fit, one) = rw e at h in
+        rw (toZ-pos w32 {n = n} (omega (arith, few-listed n e)), bytes, count)
+        (writes (done-call r (list t o) (x .sound) (rw (x .sized, x .formed, le-ltb (length o) list-room l, some-fit))))
+
+-- ---- choose
+
+-- a refusal of the task's is one of choose
+pub choose-refused : (r t : List ℕ) {z : ℤ} (x : Check) → ChecksTask r t x → x ≡ Refuse z → z ≡ on-record r (choose t) .answer
+choose-refused r t x h e = answers ((rw e at h) (choose t) refl)
+
+module _ (r t : List ℕ) (x : Given r t) (a : Best) (h : Chooses (device-of r) (book-of r) t a) where
+  pub choose-none : Bytes r → a ≡ Nothing → negsuc 8 ≡ on-record r (choose t) .answer
+  unfolding refused refusals
+  choose-none B e = answers (refused-call r (choose t) (x .sound) B 9 (rw (x .sized, x .formed, (rw e at h) .1)))
+
+  module _ (q z n s : ℕ) (e : a ≡ BestAt q z n s) where
+    -- column × 1,024 + bottom is small
+    pub choose-few : (q < max-columns) × (z < 2 * max-rows)
+    choose-few = let c = rw e at h in (c .column-small, c .bottom-small)
+
+    pub choose-done : toZ w32 (q * column-weight + z) ≡ on-record r (choose t) .answer
+    unfolding refused refusals written done position-number
+    choose-done =
+        let c = rw e at h in
+        toZ-pos w32 {n = q * column-weight + z} (omega (arith, choose-few))
+        ∙ ap (λ (f : Place). pos (position-number f)) (sym (c .chosen))
+        ∙ answers (done-call r (choose t) (x .sound) (rw (x .sized, x .formed, c .some-position)))
 
 -- ---- release
 

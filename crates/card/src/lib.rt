@@ -1,6 +1,7 @@
 // The calls on one card's record, for the match server: exported with the C calling form, save the view.
 // Each contract equates the answer and every lent byte with document 01's call on that byte string (model/specs/OnRecord.antt), refusals included.
 // `on-record` is also the step of the theorem about whole histories (model/specs/Laws/History.antt).
+use choice::Best;
 use listing::Listed;
 use record::entries::Found;
 ghost use mathlib.Core.Path.{_≡_};
@@ -203,6 +204,28 @@ pub extern "C" fn card_list(record: &[u8], task: &[u8], output: &mut [u8]) -> i3
     match check_task(record, task) {
         Check::Refuse(answer) => answer,
         Check::Pass => list_task(record, task, output),
+    }
+}
+
+// The choice for a well-formed task on a sound record.
+fn choose_task(record: &[u8], task: &[u8]) -> i32
+    requires { ⌜ Given (now «record») (now task) ⌝ }
+    ensures { λ r. ⌜ r ≡ on-record (now («record» .entry)) (choose (now (task .entry))) .answer ⌝ }
+{
+    match choice::best_position(record, task) {
+        Best::Nothing => NO_POSITION,
+        Best::At { column, bottom, .. } => (column * model::COLUMN_WEIGHT + bottom) as i32,
+    }
+}
+
+// The best of the positions at which a task fits, as column × 1,024 + bottom.
+#[no_mangle]
+pub extern "C" fn card_choose(record: &[u8], task: &[u8]) -> i32
+    ensures { λ r. ⌜ r ≡ on-record (now («record» .entry)) (choose (now (task .entry))) .answer ⌝ }
+{
+    match check_task(record, task) {
+        Check::Refuse(answer) => answer,
+        Check::Pass => choose_task(record, task),
     }
 }
 
