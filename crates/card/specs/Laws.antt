@@ -3,12 +3,12 @@ use Prim.Native.Nat.{ℕ, _+_, _-_, _*_, _≤_, _<_}
 use mathlib.Core.Path.{_≡_, refl, sym, ap, _∙_}
 use mathlib.Core.Logic.{_≢_}
 use mathlib.Core.Bool.{Bool, true, false, not}
-use mathlib.Core.Option.{some, none}
+use mathlib.Core.Option.{some}
 use mathlib.Core.List.{List, []}
 use native.Mathlib.Omega.{arith}
 use borrow.Author.Tests.{not-true, not-false, lt-leb, le-leb, leb-false, eqb-true, eqb-false, ltb-true, ltb-false, lt-ltb, le-ltb}
 use lib.Dec.{T, leb, ltb, eqb, leb·suc-zero}
-use lib.IntN.{ℤ, pos, negsuc, natAbs, negℤ}
+use lib.IntN.{ℤ, pos, negsuc, natAbs}
 use lib.ListN.{length, getD, take, drop}
 use lib.Signed.{ltZ, nonNeg, mag}
 use mir.Syntax.{w32}
@@ -18,7 +18,7 @@ use Rattle.signed.proofs.Signed.{negative, natural as natural-is, unsigned}
 use Rattle.model.specs.Limits.{max-rows, max-columns, max-intervals, max-running, max-number, record-size, columns-at, running-at, counts-at, interval-size, list-room, column-weight}
 use Rattle.model.specs.Columns.{Device, columns}
 use Rattle.model.specs.Tasks.{sized, well-formed}
-use Rattle.model.specs.Book.{Running, Book, fits, fits-at, intervals}
+use Rattle.model.specs.Book.{Book, fits, fits-at, intervals}
 use Rattle.model.specs.Choice.{Found as Place}
 use Rattle.model.specs.Record.{record-of, device-of, book-of, part, column-at}
 use Rattle.model.specs.Sound.{sound, number-ok, count-of}
