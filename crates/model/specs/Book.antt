@@ -1,8 +1,8 @@
 -- Document 01, "Histories and their book" and "Tasks": the running tasks, the cells that they hold, free cells, fitting, and free intervals.
 -- All is said of half rows. That this is the same as of cells, since blocks are whole cells, is proved in Laws.Cells. Assumes nothing.
 use Prim.Native.Nat.{ℕ, _+_, _-_, _*_, _%_}
-use mathlib.Core.Bool.{Bool, false, not, cond, _&&_}
-use mathlib.Core.List.{List, [], _∷_}
+use mathlib.Core.Bool.{Bool, false, not, _&&_}
+use mathlib.Core.List.{List}
 use lib.Dec.{leb, ltb, eqb}
 use lib.IntN.{ℤ, pos, negsuc}
 use Rattle.runs.specs.Intervals.{Interval, intervals as maximal-runs}

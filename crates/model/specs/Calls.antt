@@ -1,7 +1,7 @@
 -- Document 01, "Calls on one record", its table of refusals, and "Histories and their book": each call on the book, its answer, the bytes that it
 -- writes, and the book after it. Nothing here reads a record. Assumes nothing.
 use Prim.Native.Nat.{ℕ, _+_, _*_}
-use mathlib.Core.Bool.{Bool, not, cond, _&&_, _||_}
+use mathlib.Core.Bool.{Bool, not, cond, _||_}
 use mathlib.Core.Option.{Option, none, some}
 use mathlib.Core.List.{List, [], _∷_, _++_}
 use lib.Dec.{ltb, eqb, leb}

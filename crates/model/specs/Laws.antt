@@ -33,6 +33,11 @@ pub mod Ends
 pub mod NoPosition
 pub mod After
 -- the book after a call
+pub mod OnRecord
 pub mod Kept
 pub mod Same
 pub mod Freed
+pub mod OnCells
+pub mod RangeBytes
+pub mod Step
+pub mod History

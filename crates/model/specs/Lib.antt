@@ -13,6 +13,8 @@ pub mod Calls
 pub mod OnRecord
 pub mod History
 pub mod Sheet
+pub mod Program
 pub mod SmallCards
 pub mod SheetLines
+pub mod ExampleSheet
 pub mod Laws

@@ -1,8 +1,8 @@
 -- Document 01, "List": the ranges of a task. Assumes nothing.
 use Prim.Native.Nat.{ℕ, suc, _+_, _-_, _*_, _/_}
-use mathlib.Core.List.{List, [], _∷_, _++_, map}
+use mathlib.Core.List.{List, map}
 use Rattle.runs.specs.Runs.{Run, runs}
-use Rattle.model.specs.Bounded.{join-below, list-below, those-below, join-in}
+use Rattle.model.specs.Bounded.{join-below, list-below, those-below}
 use Rattle.model.specs.Columns.{Device, columns, half-rows}
 use Rattle.model.specs.Tasks.{step}
 use Rattle.model.specs.Book.{Book, fits}

@@ -3,9 +3,8 @@ use Prim.Native.Nat.{ℕ}
 use mathlib.Core.Path.{_≡_, refl}
 use mathlib.Core.Option.{Option, none, some}
 use mathlib.Core.List.{List, [], _∷_, map}
-use lib.IntN.{ℤ, pos, negsuc}
+use lib.IntN.{pos, negsuc}
 use Rattle.model.specs.Bounded.{all-in}
-use Rattle.model.specs.Columns.{Device}
 use Rattle.model.specs.Sheet.{SheetCall, add-block, empty-draft, list-draft, choose-draft, place-draft, release-task, text, fields, is, digit, decimal, natural, number, natural-field, height-field, kind-letter, kind-field, call-of, six, sheet-line, kind-letters, kinds-field, device-line, digits, shown, output-line}
 
 -- a line, and what it says

@@ -5,7 +5,7 @@ use mathlib.Core.List.{List, [], _∷_, _++_, map}
 use lib.IntN.{ℤ, pos, negsuc, negℤ}
 use lib.ListN.{replicate}
 use Rattle.runs.specs.Runs.{runs, push}
-use Rattle.runs.specs.Intervals.{Interval, intervals as maximal-runs}
+use Rattle.runs.specs.Intervals.{intervals as maximal-runs}
 use Rattle.model.specs.Limits.{words, list-room}
 use Rattle.model.specs.Bounded.{all-below, any-below, sum-below, join-below, those-below, all-in, any-in, sum-in, join-in}
 use Rattle.model.specs.Columns.{Device, height, cells-in, top-in, columns, kind, cells, top}

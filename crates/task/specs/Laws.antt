@@ -1,5 +1,5 @@
 -- What holds of the code's blocks, of tasks tested block by block, and of their steps. Assumes nothing.
-use Prim.Native.Nat.{ℕ, zero, suc, _+_, _-_, _*_, _≤_, _<_}
+use Prim.Native.Nat.{ℕ, suc, _+_, _-_, _*_, _≤_, _<_}
 use mathlib.Core.Path.{_≡_, refl, sym, ap, ap₂, subst, _∙_}
 use mathlib.Core.Logic.{_⊎_, inl, inr}
 use mathlib.Core.Bool.{Bool, true, false, not, or-true, or-false}
@@ -17,7 +17,7 @@ use Rattle.model.specs.Kinds.{number-of, kind-of}
 use Rattle.model.specs.Tasks as model
 use Rattle.model.specs.Tasks.{word, lifted, blocks, block, block-ok, follows, well-formed, step}
 use Rattle.model.specs.Laws.Bounded.{is-false, clash, same-test, and-of, and3-to, all-to, all-of, last-or}
-use Rattle.model.specs.Laws.Tasks.{solid}
+use Rattle.model.specs.Laws.Tasks.{solid, solid-block}
 use Rattle.model.specs.declared.Kind.{Kind}
 use Rattle.model.specs.declared.Kind.the-variants.{C, B, D}
 use Rattle.model.specs.declared.KindRead.{KindRead}
@@ -59,6 +59,10 @@ same-seen b m s = rw (s .column, s .kind, s .low, s .high)
 pub block-within : (t : List ℕ) (i : ℕ) → i < blocks t → block-size * i + block-size ≤ length t
 unfolding blocks
 block-within t i l = omega arith
+
+-- what `block_at` asks holds of the blocks of a well-formed task
+pub block-ready : (t : List ℕ) (i : ℕ) → well-formed t ≡ true → i < blocks t → (block-size * i + block-size ≤ length t) × (block t i .kind ≤ max-kind)
+block-ready t i w l = (block-within t i l, solid-block t w i l .kind)
 
 -- a block whose kind is no kind is none of a well-formed task
 pub bad-block : (m : model.Block) → max-kind < m .kind → block-ok m ≡ false

@@ -2,17 +2,16 @@
 // The model's definitions are those of model/specs/Tasks.antt; specs/ here ties the code's blocks to the model's.
 use model::Kind;
 use model::KindRead;
-
 ghost use mathlib.Core.Path.{_≡_};
 ghost use Prim.Native.Nat.{_+_, _*_, _≤_, _<_};
 ghost use lib.ListN.{length, getD};
 ghost use lib.Dec.{eqb};
 ghost use Rattle.model.specs.Limits.{block-size, max-kind, words};
 ghost use Rattle.model.specs.Columns.{height, kind-C};
-ghost use Rattle.model.specs.Tasks.{word, lifted, block, blocks, sized, block-ok, follows, well-formed, step};
+ghost use Rattle.model.specs.Tasks.{word, lifted, block, sized, block-ok, follows, well-formed, step};
 ghost use Rattle.task.specs.Blocks.{seen, Same, Reads, ReadsSolid, starts};
 
-// The sixteen bits of a number: two bytes hold these many.
+// How many numbers two bytes hold.
 const WORDS: u32 = 65536;
 
 // Where a block's fields stand in its bytes.
@@ -46,6 +45,7 @@ impl Block {
     }
 }
 
+// A byte as a number.
 fn wide(x: u8) -> u32
     ensures { λ r. ⌜ (r ≡ x) × (r < 256) ⌝ }
 {
@@ -85,7 +85,7 @@ pub fn read_block(task: &[u8], i: usize) -> BlockRead
     })
 }
 
-// Block i of a task whose kinds are known.
+// Block i of a task, where its kind is known: the other branch is never taken.
 pub fn block_at(task: &[u8], i: usize) -> Block
     requires { ⌜ (block-size * i + block-size ≤ length (now task)) × (block (now task) i .kind ≤ max-kind) ⌝ }
     ensures { λ r. ⌜ Same r (block (now (task .entry)) i) ⌝ }
@@ -149,6 +149,7 @@ fn follows(a: Block, b: Block) -> bool
     a.high < b.low
 }
 
+// Byte i, or 0 past the end.
 fn byte_or_zero(s: &[u8], i: usize) -> u32
     ensures { λ r. ⌜ (r ≡ getD (now (s .entry)) i 0) × (r < 256) ⌝ }
 {

@@ -21,7 +21,7 @@ use Rattle.runs.specs.Runs.{Run, run, Steps, Mem, From, Canon, push}
 use Rattle.runs.specs.Laws.Streaming.{push-join, push-apart}
 use Rattle.runs.specs.Laws.Both.{count-above, from-least}
 use Rattle.model.specs.Limits.{max-rows}
-use Rattle.model.specs.Laws.Listing.{map-append}
+use Rattle.model.specs.Laws.Bounded.{map-append}
 use Rattle.listing.specs.Bottoms.{lift, lowered}
 use Rattle.listing.specs.Arrays.{max-runs, read, Room, Pushable, Joined}
 

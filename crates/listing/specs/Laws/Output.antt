@@ -15,9 +15,9 @@ use Rattle.model.specs.Book.{fits}
 use Rattle.model.specs.Listing.{Range, range-of, ranges}
 use Rattle.model.specs.Record.{bytes16, device-of, book-of}
 use Rattle.model.specs.Calls.{range-bytes, over, no-position}
-use Rattle.model.specs.Laws.Bounded.{is-false}
+use Rattle.model.specs.Laws.Bounded.{is-false, map-append}
 use Rattle.model.specs.Laws.Parts.{splice, splice-none, splice-more, length-splice, set-two}
-use Rattle.model.specs.Laws.Listing.{map-append, join-append}
+use Rattle.model.specs.Laws.Listing.{join-append}
 use Rattle.model.specs.Laws.Limits.{limits-to}
 use Rattle.model.specs.Laws.Steps.{fits-steps}
 use Rattle.model.specs.Laws.NoPosition.{ranges-none-iff}

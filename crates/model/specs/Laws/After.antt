@@ -2,24 +2,25 @@
 use Prim.Native.Nat.{ℕ, suc, _+_, _-_, _≤_, _<_}
 use mathlib.Core.Path.{_≡_, refl, sym, ap, ap₂, _∙_}
 use mathlib.Core.Logic.{_⊎_, inl, inr, _↔_}
-use mathlib.Core.Bool.{Bool, true, false, not, cond, _&&_, _||_, false≢true}
+use mathlib.Core.Bool.{Bool, true, false, not, cond, _&&_, _||_}
 use mathlib.Core.List.{List, [], _∷_, _++_}
 use native.Mathlib.Omega.{arith}
 use lib.ListN.{length}
-use lib.Dec.{leb, ltb}
+use lib.Dec.{leb}
 use borrow.Author.Tests.{le-leb, lt-leb, not-true}
 use Rattle.runs.specs.Intervals.{Interval, Named, Apart}
 use Rattle.runs.specs.Laws.Tests.{tests}
 use Rattle.runs.specs.Laws.Intervals.{apart-weaken, apart-unique, intervals-free}
 use Rattle.model.specs.Bounded.{any-below, sum-below, any-in, sum-in, join-in}
-use Rattle.model.specs.Columns.{Device, columns, top}
-use Rattle.model.specs.Book.{Running, Book, Placed, covered, standing, held, free, intervals}
+use Rattle.model.specs.Columns.{Device, columns}
+use Rattle.model.specs.Book.{Running, Book, Placed, covered, standing, intervals}
 use Rattle.model.specs.Choice.{lies, left-in, remaining, pieces, judge}
 use Rattle.model.specs.Calls.{insert}
 use Rattle.model.specs.Laws.Bounded.{In, and-to, sum-ext, list-ext}
 use Rattle.model.specs.Laws.Gaps.{Inside}
 use Rattle.model.specs.Laws.Homes.{bit, in-bounds}
 use Rattle.model.specs.Laws.Ends.{column-free}
+use Rattle.model.specs.Laws.Freed.{free-insert}
 
 -- how many of the list pass
 abbrev pub count-in : (Interval → Bool) → List Interval → ℕ
@@ -174,44 +175,11 @@ pieces-after B C L M p q e =
 
 -- ---- a task that is placed
 
-or-swap : (a b c : Bool) → (a || (b || c)) ≡ (b || (a || c))
-or-swap true true c = refl
-or-swap true false c = refl
-or-swap false b c = refl
-
--- what one of the book's tasks does after placing, the new one does or one of the others
-pub any-insert : (p : Running → Bool) (e : Running) (b : Book) → any-in p (insert e b) ≡ (p e || any-in p b)
-unfolding any-in insert
-any-insert p e [] = refl
-any-insert p e (f ∷ b) = go (ltb (e .number) (f .number)) (any-insert p e b)
-  where
-    go : (t : Bool) → any-in p (insert e b) ≡ (p e || any-in p b) → any-in p (cond t (e ∷ f ∷ b) (f ∷ insert e b)) ≡ (p e || (p f || any-in p b))
-    go true r = refl
-    go false r = rw r (or-swap (p f) (p e) (any-in p b))
-
--- a half row is free after placing where it was free and the task does not cover it
-free-to : (u x h : Bool) → (u && not (x || h)) ≡ true → ((u && not h) ≡ true) × (x ≡ false)
-free-to true false h e = (e, refl)
-free-to true true h e = absurd (false≢true e)
-free-to false x h e = absurd (false≢true e)
-
-free-of : (u x h : Bool) → (u && not h) ≡ true → x ≡ false → (u && not (x || h)) ≡ true
-free-of true x h e f = rw f e
-free-of false x h e f = e
-
 module _ (d : Device) (b : Book) (e : Running) where
-  pub free-insert : (c z : ℕ) → (free d (insert e b) c z ≡ true) ↔ ((free d b c z ≡ true) × (covered (standing e) c z ≡ false))
-  unfolding free held
-  free-insert c z =
-      let u = ltb c (columns d) && ltb z (top d c) in
-      let x = covered (standing e) c z in
-      let h = any-in (λ f. covered (standing f) c z) b in
-      rw (any-insert (λ f. covered (standing f) c z) e b) (free-to u x h, λ k. free-of u x h (k .0) (k .1))
-
   named-insert : (c z : ℕ) → Named z (intervals d (insert e b) c) ↔ (Named z (intervals d b c) × (covered (standing e) c z ≡ false))
   named-insert c z = (
-    λ n. let (l, v) = column-free d (insert e b) c .named z .0 n in let (x, y) = free-insert c z .0 v in (column-free d b c .named z .1 (l, x), y),
-    λ (n, y). let (l, x) = column-free d b c .named z .0 n in column-free d (insert e b) c .named z .1 (l, free-insert c z .1 (x, y)),
+    λ n. let (l, v) = column-free d (insert e b) c .named z .0 n in let (x, y) = free-insert d b e c z .0 v in (column-free d b c .named z .1 (l, x), y),
+    λ (n, y). let (l, x) = column-free d b c .named z .0 n in column-free d (insert e b) c .named z .1 (l, free-insert d b e c z .1 (x, y)),
   )
 
   -- THEOREM: n of a task at a position is the number of free intervals, after placing it there, that lie inside intervals that held a block

@@ -1,11 +1,11 @@
 -- The laws of tests, bounded tests and sums. Assumes nothing.
 use Prim.Native.Nat.{ℕ, zero, suc, _+_, _≤_, _<_}
-use mathlib.Core.Path.{_≡_, refl, sym, ap, ap₂, _∙_}
+use mathlib.Core.Path.{_≡_, refl, sym, ap, _∙_}
 use mathlib.Core.Logic.{_⊎_, inl, inr}
-use mathlib.Core.Bool.{Bool, true, false, not, _&&_, _||_, true≢false, false≢true}
-use mathlib.Core.List.{List, [], _∷_}
+use mathlib.Core.Bool.{Bool, true, false, _&&_, _||_, true≢false, false≢true}
+use mathlib.Core.List.{List, [], _∷_, _++_, map}
 use native.Mathlib.Omega.{arith}
-use Rattle.runs.specs.Laws.Tests.{tests, lt-or-ge}
+use Rattle.runs.specs.Laws.Tests.{lt-or-ge}
 use Rattle.model.specs.Bounded.{all-below, any-below, sum-below, all-in, any-in, sum-in}
 
 -- ---- tests
@@ -197,6 +197,10 @@ pub any-in-none : {A : Type 0} (p : A → Bool) (l : List A) → ((x : A) → In
 unfolding any-in
 any-in-none p [] h = refl
 any-in-none p (y ∷ l) h = rw (h y (inl refl)) (any-in-none p l (λ x m. h x (inr m)))
+
+pub map-append : {A B : Type 0} (f : A → B) (K L : List A) → map f (K ++ L) ≡ map f K ++ map f L
+map-append f [] L = refl
+map-append {B = B} f (x ∷ K) L = ap {B = List B} (λ l. f x ∷ l) (map-append f K L)
 
 -- ---- sums over a list
 

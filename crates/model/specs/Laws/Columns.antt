@@ -1,14 +1,11 @@
 -- Heights, cells and tops: what holds of them for every kind. Assumes nothing.
-use Prim.Native.Nat.{ℕ, _+_, _*_, _/_, _≤_, _<_}
-use mathlib.Core.Path.{_≡_, refl}
-use mathlib.Core.Bool.{Bool, true, false, cond}
-use mathlib.Core.List.{List}
+use Prim.Native.Nat.{ℕ, _≤_}
 use native.Mathlib.Nat.{mul-div-le, mul-comm}
 use native.Mathlib.Omega.{arith}
 use lib.Dec.{eqb}
 use Rattle.runs.specs.Laws.Tests.{cond-ind}
 use Rattle.runs.specs.Intervals.{Multiple}
-use Rattle.model.specs.Columns.{height, kind-C, cells-in, top-in, Device, half-rows, kind, cells, top}
+use Rattle.model.specs.Columns.{height, kind-C, cells-in, top-in, Device, half-rows, kind, top}
 
 -- every height is 2 or more
 pub height-two : (k : ℕ) → 2 ≤ height k

@@ -15,6 +15,7 @@ use Rattle.model.specs.Book.{Running, Book}
 use Rattle.model.specs.Record.{bytes16, padded, entry-bytes, head-bytes, entry-part}
 use Rattle.model.specs.Calls.{insert, without, runs-in}
 use Rattle.model.specs.Laws.Parts.{changed}
+use Rattle.model.specs.Laws.Bounded.{map-append}
 use Rattle.model.specs.Laws.Slots.{raised, lowered, slot-insert, slot-remove}
 use Rattle.model.specs.Laws.Record.{Reads, reads-head, reads-cong, no-entry}
 
@@ -80,10 +81,6 @@ place-le n (f ∷ b) = go (ltb n (f .number)) (place-le n b)
     go false h = omega arith
 
 module _ {ℓ κ} {A : Type ℓ} {B : Type κ} (f : A → B) where
-  map-append : (u v : List A) → map f (u ++ v) ≡ map f u ++ map f v
-  map-append [] v = refl
-  map-append (x ∷ u) v = ap (λ l. f x ∷ l) (map-append u v)
-
   map-take : (i : ℕ) (l : List A) → map f (take i l) ≡ take i (map f l)
   map-take zero l = refl
   map-take (suc i) [] = refl

@@ -1,18 +1,17 @@
 -- Where a block fits and where a task fits, as facts about numbers. Assumes nothing.
-use Prim.Native.Nat.{ℕ, _+_, _-_, _*_, _%_, _≤_, _<_}
-use mathlib.Core.Path.{_≡_, refl, sym, ap, _∙_}
-use mathlib.Core.Bool.{Bool, true, false, _&&_}
+use Prim.Native.Nat.{ℕ, _+_, _-_, _%_, _≤_, _<_}
+use mathlib.Core.Path.{_≡_}
+use mathlib.Core.Bool.{true}
 use mathlib.Core.List.{List}
 use native.Mathlib.Omega.{arith}
 use lib.Dec.{leb, ltb, eqb}
 use borrow.Author.Tests.{le-leb, lt-ltb, eq-eqb}
 use Rattle.runs.specs.Laws.Tests.{tests}
 use Rattle.model.specs.Limits.{reach}
-use Rattle.model.specs.Bounded.{all-below}
 use Rattle.model.specs.Columns.{Device, half-rows, height, columns, kind, top}
 use Rattle.model.specs.Tasks.{Block, blocks, block, well-formed}
 use Rattle.model.specs.Book.{Book, free, block-fits, fits}
-use Rattle.model.specs.Laws.Bounded.{and-of, and6-to, all-to, all-of}
+use Rattle.model.specs.Laws.Bounded.{and6-to, all-to, all-of}
 use Rattle.model.specs.Laws.Columns.{top-le}
 use Rattle.model.specs.Laws.Tasks.{first-block, full-block}
 

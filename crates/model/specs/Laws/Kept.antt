@@ -19,6 +19,7 @@ use Rattle.model.specs.Book.{Running, Book, covered, standing, held, fit
 use Rattle.model.specs.Sound.{number-ok, within}
 use Rattle.model.specs.Calls.{Call, list, choose, place, release, lent, refused, refusals, runs-in, insert, without, natural, running, done, unless, on-book}
 use Rattle.model.specs.Laws.Bounded.{and-to, any-to, In, any-in-of, clash}
+use Rattle.model.specs.Laws.Entries.{length-insert}
 use Rattle.model.specs.Laws.Limits.{Rising, Parted, Entry, limits-to, within-device, within-of}
 use Rattle.model.specs.Laws.Cells.{covered-holds}
 use Rattle.model.specs.Laws.Split.{free-to, covered-free, fits-split, neither, insert-to, without-to}
@@ -74,11 +75,6 @@ without-rising m n (g ∷ b) r =
 
 -- ---- how many
 
-insert-length : (e : Running) (b : Book) → length (insert e b) ≡ suc (length b)
-unfolding insert
-insert-length e [] = refl
-insert-length e (g ∷ b) = cond-ind (λ (l : Book). length l ≡ suc (suc (length b))) (ltb (e .number) (g .number)) (λ u. refl) (λ u. ap suc (insert-length e b))
-
 without-length : (n : ℕ) (b : Book) → length (without n b) ≤ length b
 unfolding without
 without-length n [] = omega arith
@@ -97,7 +93,7 @@ module _ (d : Device) (b : Book) (w : within d b ≡ true) where
   pub insert-within : (e : Running) → length b < max-running → Entry d e → ((f : Running) → In f b → ¬ (f .number ≡ e .number))
       → fits d b (e .task) (e .column) (e .bottom) ≡ true → within d (insert e b) ≡ true
   insert-within e l n o h =
-      within-of d (insert e b) (within-device d b w) (omega (arith, insert-length e b))
+      within-of d (insert e b) (within-device d b w) (omega (arith, length-insert e b))
       (λ f i. entry f (insert-to e f b i))
       (insert-rising 0 e b (limits-to d b w .rising) (n .number-one) o)
       (λ f g i j k. parted f g (insert-to e f b i) (insert-to e g b j) k)

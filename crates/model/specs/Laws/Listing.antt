@@ -18,7 +18,7 @@ use Rattle.model.specs.Tasks.{step, sized}
 use Rattle.model.specs.Book.{Book, fits}
 use Rattle.model.specs.Listing.{range-of, ranges, Position, position, named, fitting}
 use Rattle.model.specs.Sound.{within}
-use Rattle.model.specs.Laws.Bounded.{In}
+use Rattle.model.specs.Laws.Bounded.{In, map-append}
 use Rattle.model.specs.Laws.Parts.{join-cong}
 use Rattle.model.specs.Laws.Tasks.{sized-to}
 use Rattle.model.specs.Laws.Steps.{fits-steps, step-two}
@@ -27,10 +27,6 @@ use Rattle.model.specs.Laws.Limits.{limits-to}
 -- ---- lists that are joined
 
 module _ {A B : Type 0} where
-  pub map-append : (f : A → B) (K L : List A) → map f (K ++ L) ≡ map f K ++ map f L
-  map-append f [] L = refl
-  map-append f (x ∷ K) L = ap {B = List B} (λ l. f x ∷ l) (map-append f K L)
-
   pub join-append : (f : A → List B) (K L : List A) → join-in f (K ++ L) ≡ join-in f K ++ join-in f L
   unfolding join-in
   join-append f [] L = refl

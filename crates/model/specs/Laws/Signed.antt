@@ -1,8 +1,8 @@
 -- `lifted` is the value of a two-byte number in two's complement, plus `reach`. `ofZ w16 z` are the 16 bits of z, as the language has them. Assumes nothing.
-use Prim.Native.Nat.{ℕ, suc, _+_, _-_, _*_, _%_, _^_, _≤_, _<_}
+use Prim.Native.Nat.{ℕ, suc, _+_, _*_, _≤_, _<_}
 use mathlib.Core.Path.{_≡_}
 use native.Mathlib.Omega.{arith}
-use lib.IntN.{ℤ, pos, negsuc}
+use lib.IntN.{pos, negsuc}
 use mir.Syntax.{w16}
 use mir.Val.{ofZ}
 use Rattle.model.specs.Limits.{reach, max-height-field}

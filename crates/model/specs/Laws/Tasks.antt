@@ -1,8 +1,8 @@
 -- What it is to be a task of whole blocks, and well-formed. Assumes nothing.
-use Prim.Native.Nat.{ℕ, zero, suc, _+_, _-_, _*_, _/_, _%_, _≤_, _<_}
-use mathlib.Core.Path.{_≡_, refl, sym, ap, _∙_}
+use Prim.Native.Nat.{ℕ, zero, suc, _+_, _-_, _*_, _%_, _≤_, _<_}
+use mathlib.Core.Path.{_≡_}
 use mathlib.Core.Logic.{_⊎_, inl, inr}
-use mathlib.Core.Bool.{Bool, true, false, not, _&&_, _||_}
+use mathlib.Core.Bool.{true, not, _&&_}
 use mathlib.Core.List.{List}
 use native.Mathlib.Omega.{arith}
 use native.Mathlib.Numerals.{add-one}
@@ -14,7 +14,7 @@ use Rattle.model.specs.Limits.{max-columns, max-kind, max-blocks, block-
 use Rattle.model.specs.Bounded.{all-below}
 use Rattle.model.specs.Columns.{height}
 use Rattle.model.specs.Tasks.{Block, blocks, block, sized, block-ok, follows, well-formed}
-use Rattle.model.specs.Laws.Bounded.{and-to, and3-to, and4-to, and5-to, or-to, all-to}
+use Rattle.model.specs.Laws.Bounded.{and3-to, and4-to, and5-to, or-to, all-to}
 
 -- ---- whole blocks
 

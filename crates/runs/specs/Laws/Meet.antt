@@ -1,15 +1,14 @@
 -- The laws of where two ranges meet. Assumes nothing.
 use mathlib.Core.Path.{_≡_, refl, sym, ap, _∙_}
-use mathlib.Core.Logic.{_⊎_, inl, inr, _↔_}
+use mathlib.Core.Logic.{_⊎_, inl, inr}
 use Prim.Native.Nat.{ℕ, zero, suc, _+_, _-_, _*_, _/_, _%_, _≤_, _<_, min, max}
 use native.Mathlib.Nat.{mul-le-mul-right, lt-of-mul-lt-mul-right, div-add-mod', mod-lt, mul-mod-left, mul-mod-right, mul-comm, mul-assoc}
 use native.Mathlib.Omega.{arith}
 use Rattle.runs.specs.Laws.Tests.{lt-or-ge}
 use Rattle.runs.specs.Runs.{run, Steps, In}
 use Rattle.runs.specs.Intervals.{Multiple}
-use Rattle.runs.specs.Meet.{Step, Proper, Names, Lcm, Start, FirstCommon, Both-of, Meets}
+use Rattle.runs.specs.Meet.{Proper, Names, Lcm, Start, FirstCommon, Both-of, Meets}
 use Rattle.runs.specs.declared.Range.{Range}
-use Rattle.runs.specs.declared.Met.{Met}
 use Rattle.runs.specs.declared.Met.the-variants.{Empty, Both}
 
 -- ---- steps and multiples

@@ -3,9 +3,6 @@ use borrow.Author.Needs.{needs}
 use native.Mathlib.Omega.{arith}
 use Rattle.task.proofs.block_at.Statement.{statement}
 use Rattle.task.proofs.block_at.Tie as tie
-use Rattle.task.proofs.block_at.Reads as reads
-use Rattle.task.proofs.block_at.Lts as lts
-use Rattle.task.proofs.read_block.Reads as read-block-reads
 
 read-block-requires : tie.Need-read-block-requires
 read-block-requires c κs = search needs

@@ -6,9 +6,6 @@ use Rattle.model.specs.Laws.Columns.{height-pos}
 use Rattle.task.specs.Laws.{known}
 use Rattle.task.proofs.block_ok.Statement.{statement}
 use Rattle.task.proofs.block_ok.Tie as tie
-use Rattle.task.proofs.block_ok.Reads as reads
-use Rattle.task.proofs.block_ok.Lts as lts
-use Rattle.task.proofs.Block.height.Reads as height-reads
 
 cast-if1 : tie.Need-cast-if1
 cast-if1 c = search needs

@@ -5,9 +5,6 @@ use native.Mathlib.Omega.{arith}
 use lib.ListN.{List·getD-eq-default}
 use Rattle.task.proofs.byte_or_zero.Statement.{statement}
 use Rattle.task.proofs.byte_or_zero.Tie as tie
-use Rattle.task.proofs.byte_or_zero.Reads as reads
-use Rattle.task.proofs.byte_or_zero.Lts as lts
-use Rattle.task.proofs.wide.Reads as wide-reads
 
 shared-slice-read-wide : tie.Need-shared-slice-read-wide
 shared-slice-read-wide c = search needs

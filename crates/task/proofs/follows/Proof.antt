@@ -3,9 +3,6 @@ use borrow.Author.Needs.{needs}
 use Rattle.task.specs.Laws.{follows-later, follows-earlier, follows-other, follows-above}
 use Rattle.task.proofs.follows.Statement.{statement}
 use Rattle.task.proofs.follows.Tie as tie
-use Rattle.task.proofs.follows.Reads as reads
-use Rattle.task.proofs.follows.Lts as lts
-use Rattle.model.proofs.Kind.number.Reads as number-reads
 
 returns : tie.Need-returns
 returns c = let x = c .before .before .before .args in

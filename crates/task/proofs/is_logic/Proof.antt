@@ -2,9 +2,6 @@
 use borrow.Author.Needs.{needs}
 use Rattle.task.proofs.is_logic.Statement.{statement}
 use Rattle.task.proofs.is_logic.Tie as tie
-use Rattle.task.proofs.is_logic.Reads as reads
-use Rattle.task.proofs.is_logic.Lts as lts
-use Rattle.model.proofs.Kind.number.Reads as number-reads
 
 number-requires : tie.Need-number-requires
 number-requires c κs = search needs

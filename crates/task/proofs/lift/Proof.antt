@@ -4,8 +4,6 @@ use mathlib.Core.Path.{refl}
 use Rattle.model.specs.Tasks.{lifted}
 use Rattle.task.proofs.lift.Statement.{statement}
 use Rattle.task.proofs.lift.Tie as tie
-use Rattle.task.proofs.lift.Reads as reads
-use Rattle.task.proofs.lift.Lts as lts
 
 add-result : tie.Need-add-result
 add-result c = search needs

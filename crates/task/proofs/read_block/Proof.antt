@@ -5,12 +5,6 @@ use Rattle.model.specs.Tasks.{lifted, block}
 use Rattle.task.specs.Laws.{kind-known, kind-unknown}
 use Rattle.task.proofs.read_block.Statement.{statement}
 use Rattle.task.proofs.read_block.Tie as tie
-use Rattle.task.proofs.read_block.Reads as reads
-use Rattle.task.proofs.read_block.Lts as lts
-use Rattle.model.proofs.Kind.of_byte.Reads as of-byte-reads
-use Rattle.task.proofs.lift.Reads as lift-reads
-use Rattle.task.proofs.wide.Reads as wide-reads
-use Rattle.task.proofs.word_at.Reads as word-at-reads
 
 mul-at : tie.Need-mul-at
 mul-at c = search needs

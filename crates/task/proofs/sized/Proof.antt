@@ -4,8 +4,6 @@ use borrow.Author.Tests.{eq-eqb, ne-eqb, le-leb, lt-leb}
 use Rattle.model.specs.Tasks.{sized}
 use Rattle.task.proofs.sized.Statement.{statement}
 use Rattle.task.proofs.sized.Tie as tie
-use Rattle.task.proofs.sized.Reads as reads
-use Rattle.task.proofs.sized.Lts as lts
 
 returns : tie.Need-returns
 unfolding sized

@@ -4,10 +4,6 @@ use mathlib.Core.Path.{_∙_}
 use Rattle.task.specs.Laws.{bad-block, tested}
 use Rattle.task.proofs.solid_block.Statement.{statement}
 use Rattle.task.proofs.solid_block.Tie as tie
-use Rattle.task.proofs.solid_block.Reads as reads
-use Rattle.task.proofs.solid_block.Lts as lts
-use Rattle.task.proofs.block_ok.Reads as block-ok-reads
-use Rattle.task.proofs.read_block.Reads as read-block-reads
 
 read-block-requires : tie.Need-read-block-requires
 read-block-requires c κs = search needs

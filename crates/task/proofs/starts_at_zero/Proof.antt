@@ -3,9 +3,6 @@ use borrow.Author.Needs.{needs}
 use Rattle.task.specs.Laws.{starts-not, starts-low}
 use Rattle.task.proofs.starts_at_zero.Statement.{statement}
 use Rattle.task.proofs.starts_at_zero.Tie as tie
-use Rattle.task.proofs.starts_at_zero.Reads as reads
-use Rattle.task.proofs.starts_at_zero.Lts as lts
-use Rattle.task.proofs.byte_or_zero.Reads as byte-or-zero-reads
 
 byte-or-zero-requires : tie.Need-byte-or-zero-requires
 byte-or-zero-requires c κs = search needs

@@ -9,9 +9,6 @@ use Rattle.model.specs.Tasks.{blocks, block}
 use Rattle.task.specs.Laws.{Met, met-none, met-logic, met-other, step-2, step-5, step-10}
 use Rattle.task.proofs.step.Statement.{statement}
 use Rattle.task.proofs.step.Tie as tie
-use Rattle.task.proofs.step.Reads as reads
-use Rattle.task.proofs.step.Lts as lts
-use Rattle.task.proofs.is_logic.Reads as is-logic-reads
 
 abbrev Inv-loop : tie.InvT-loop
 Inv-loop task count logic₀ other₀ i₀ logic other i = Met task i logic other

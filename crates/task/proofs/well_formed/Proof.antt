@@ -8,11 +8,6 @@ use Rattle.model.specs.Tasks.{blocks}
 use Rattle.task.specs.Laws.{Tested, ill-start, ill-block, ill-pair, no-blocks, tested-first, tested-next, all-tested}
 use Rattle.task.proofs.well_formed.Statement.{statement}
 use Rattle.task.proofs.well_formed.Tie as tie
-use Rattle.task.proofs.well_formed.Reads as reads
-use Rattle.task.proofs.well_formed.Lts as lts
-use Rattle.task.proofs.follows.Reads as follows-reads
-use Rattle.task.proofs.solid_block.Reads as solid-block-reads
-use Rattle.task.proofs.starts_at_zero.Reads as starts-at-zero-reads
 
 abbrev Inv-loop : tie.InvT-loop
 Inv-loop task count last₀ i₀ last i = Tested task i last

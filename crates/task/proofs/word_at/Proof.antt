@@ -4,9 +4,6 @@ use native.Mathlib.Omega.{arith}
 use Rattle.model.specs.Tasks.{word}
 use Rattle.task.proofs.word_at.Statement.{statement}
 use Rattle.task.proofs.word_at.Tie as tie
-use Rattle.task.proofs.word_at.Reads as reads
-use Rattle.task.proofs.word_at.Lts as lts
-use Rattle.task.proofs.wide.Reads as wide-reads
 
 shared-slice-read-wide : tie.Need-shared-slice-read-wide
 shared-slice-read-wide c = search needs

@@ -116,8 +116,8 @@ fn what_lies_above_the_last_whole_cell_is_no_cell() {
 }
 
 #[test]
-fn as_many_ranges_as_the_output_holds() {
-    // Every other cell of every column held: 64 columns of 64 ranges.
+fn a_card_cut_up_by_64_combs() {
+    // Every other cell of 32 columns held: 64 ranges in each, and one in the others.
     let mut book = Book::new(128, &[0; 64]).unwrap();
     let comb: Vec<_> = (0..32).map(|k| (0, 'C', 4 * k, 4 * k + 2)).collect();
     let comb = task(&comb);

@@ -1,0 +1,199 @@
+// The calls on one card's record, for the match server: exported with the C calling form, save the view.
+// Each contract equates the answer and every lent byte with document 01's call on that byte string (model/specs/OnRecord.antt), refusals included.
+// `on-record` is also the step of the theorem about whole histories (model/specs/Laws/History.antt).
+use record::entries::Found;
+ghost use mathlib.Core.Path.{_≡_};
+ghost use mathlib.Core.Bool.{Bool, true};
+ghost use Prim.Native.Nat.{_<_};
+ghost use lib.Dec.{leb};
+ghost use lib.ListN.{length};
+ghost use Rattle.model.specs.Limits.{max-running};
+ghost use Rattle.model.specs.Record.{book-of};
+ghost use Rattle.model.specs.Sound.{sound, number-ok};
+ghost use Rattle.model.specs.Calls.{list, choose, place, release, runs-in};
+ghost use Rattle.model.specs.OnRecord.{on-record, new, interval-count, view};
+ghost use Rattle.card.specs.Leaves.{Changes, Writes, Passed, ChecksTask};
+
+// Document 01's table of refusals.
+pub const WRONG_LENGTH: i32 = -1;
+
+pub const NOT_SOUND: i32 = -2;
+
+pub const BAD_DEVICE: i32 = -3;
+
+pub const BAD_TASK_LENGTH: i32 = -4;
+
+pub const MALFORMED_TASK: i32 = -5;
+
+pub const SHORT_OUTPUT: i32 = -6;
+
+pub const BAD_NUMBER: i32 = -7;
+
+pub const CARD_FULL: i32 = -8;
+
+pub const NO_POSITION: i32 = -9;
+
+pub const MISFIT: i32 = -10;
+
+pub const NOT_RUNNING: i32 = -11;
+
+// What a call on a record with a task checks first.
+pub enum Check {
+    Pass,
+    Refuse(i32),
+}
+
+// The refusals that list, choose and place share: −1, −2, −4 and −5.
+fn check_task(record: &[u8], task: &[u8]) -> Check
+    ensures { λ r. ⌜ ChecksTask (now («record» .entry)) (now (task .entry)) r ⌝ }
+{
+    if record.len() != model::RECORD_SIZE {
+        return Check::Refuse(WRONG_LENGTH);
+    }
+    if !record::sound::sound(record) {
+        return Check::Refuse(NOT_SOUND);
+    }
+    if !task::sized(task) {
+        return Check::Refuse(BAD_TASK_LENGTH);
+    }
+    if !task::well_formed(task) {
+        return Check::Refuse(MALFORMED_TASK);
+    }
+    Check::Pass
+}
+
+// Whether a task number is 1 to 65,535.
+fn number_ok(number: u32) -> bool
+    ensures { λ r. ⌜ r ≡ number-ok number ⌝ }
+{
+    if number < 1 {
+        return false;
+    }
+    number <= model::MAX_NUMBER
+}
+
+// Whether the task of a number runs.
+fn runs(record: &[u8], number: u32) -> bool
+    requires { ⌜ sound (now «record») ≡ true ⌝ }
+    ensures { λ r. ⌜ r ≡ runs-in (book-of (now («record» .entry))) number ⌝ }
+{
+    let found = record::entries::find(record, number);
+    match found {
+        Found::At(_) => true,
+        Found::Nowhere => false,
+    }
+}
+
+// Whether no further task may run.
+fn full(record: &[u8]) -> bool
+    requires { ⌜ sound (now «record») ≡ true ⌝ }
+    ensures { λ r. ⌜ r ≡ leb max-running (length (book-of (now («record» .entry)))) ⌝ }
+{
+    model::MAX_RUNNING <= record[model::RUNNING_AT] as usize
+}
+
+// Writes the record of a device with all cells free.
+#[no_mangle]
+pub extern "C" fn card_new(record: &mut [u8], rows: u32, kinds: &[u8]) -> i32
+    ensures { λ r. ⌜ Changes (new (now («record» .entry)) rows (now (kinds .entry))) r (now («record» .exit)) ⌝ }
+{
+    if record.len() != model::RECORD_SIZE {
+        return WRONG_LENGTH;
+    }
+    if !record::device::device_ok(rows, kinds) {
+        return BAD_DEVICE;
+    }
+    record::clear::clear(record, rows, kinds);
+    0
+}
+
+// A placement on a sound record, of a well-formed task.
+fn place_checked(record: &mut [u8], task: &[u8], number: u32, column: u32, bottom: i32) -> i32
+    requires { ⌜ Passed (now «record») (now task) ⌝ }
+    ensures { λ r. ⌜ Changes (on-record (now («record» .entry)) (place (now (task .entry)) number column bottom)) r (now («record» .exit)) ⌝ }
+{
+    if !number_ok(number) {
+        return BAD_NUMBER;
+    }
+    if runs(record, number) {
+        return BAD_NUMBER;
+    }
+    if full(record) {
+        return CARD_FULL;
+    }
+    if bottom < 0 {
+        return MISFIT;
+    }
+    let y = bottom as u32;
+    if !record::fits::fits(record, task, column, y) {
+        return MISFIT;
+    }
+    record::enter::enter(record, task, number, column, y);
+    0
+}
+
+// Enters a task as running at a position, and takes its cells.
+#[no_mangle]
+pub extern "C" fn card_place(
+    record: &mut [u8],
+    task: &[u8],
+    number: u32,
+    column: u32,
+    bottom: i32,
+) -> i32
+    ensures { λ r. ⌜ Changes (on-record (now («record» .entry)) (place (now (task .entry)) number column bottom)) r (now («record» .exit)) ⌝ }
+{
+    let check = check_task(record, task);
+    match check {
+        Check::Refuse(answer) => answer,
+        Check::Pass => place_checked(record, task, number, column, bottom),
+    }
+}
+
+// Frees the cells of a running task and removes its entry.
+#[no_mangle]
+pub extern "C" fn card_release(record: &mut [u8], number: u32) -> i32
+    ensures { λ r. ⌜ Changes (on-record (now («record» .entry)) (release number)) r (now («record» .exit)) ⌝ }
+{
+    if record.len() != model::RECORD_SIZE {
+        return WRONG_LENGTH;
+    }
+    if !record::sound::sound(record) {
+        return NOT_SOUND;
+    }
+    if !runs(record, number) {
+        return NOT_RUNNING;
+    }
+    record::leave::leave(record, number);
+    0
+}
+
+// The number of free intervals of a column.
+#[no_mangle]
+pub extern "C" fn card_interval_count(record: &[u8], column: u32) -> i32
+    ensures { λ r. ⌜ r ≡ interval-count (now («record» .entry)) column .answer ⌝ }
+{
+    if record.len() != model::RECORD_SIZE {
+        return WRONG_LENGTH;
+    }
+    if !record::sound::sound(record) {
+        return NOT_SOUND;
+    }
+    if record[model::COLUMNS_AT] as u32 <= column {
+        return BAD_DEVICE;
+    }
+    record[model::COUNTS_AT + column as usize] as i32
+}
+
+// A column's free intervals, four bytes each, as a part of the record; empty where the interval count is a refusal.
+pub fn intervals(record: &[u8], column: u32) -> &[u8]
+    ensures { λ r. ⌜ now r ≡ view (now («record» .entry)) column ⌝ }
+{
+    let count = card_interval_count(record, column);
+    if count < 0 {
+        return &record[0..0];
+    }
+    let a = model::INTERVALS_AT + model::COLUMN_SIZE * column as usize;
+    let e = a + model::INTERVAL_SIZE * count as usize;
+    &record[a..e]
+}

@@ -1,0 +1,129 @@
+-- What the functions that look for the best position answer. Assumes nothing.
+use Prim.Native.Nat.{ℕ, suc, _+_, _*_, _≤_, _<_}
+use mathlib.Core.Path.{_≡_}
+use mathlib.Core.Logic.{_⊎_}
+use mathlib.Core.Bool.{Bool, true, false, not, cond, _&&_}
+use mathlib.Core.List.{List}
+use lib.Dec.{ltb, eqb}
+use lib.ListN.{length, getD}
+use Rattle.runs.specs.Runs.{Run, run, Steps, In, runs}
+use Rattle.runs.specs.Intervals.{Interval, interval}
+use Rattle.runs.specs.declared.Range.{Range}
+use Rattle.model.specs.Limits.{max-rows, max-columns, max-blocks, words}
+use Rattle.model.specs.Columns.{Device, half-rows}
+use Rattle.model.specs.Tasks.{step}
+use Rattle.model.specs.Book.{Book, Placed, placed, fits, intervals}
+use Rattle.model.specs.Choice.{home, Judge, judge, Found, nothing, at, climb, chosen}
+use Rattle.model.specs.Calls.{no-position}
+use Rattle.model.specs.Laws.Homes.{bit}
+use Rattle.model.specs.Laws.Raised.{Room}
+use Rattle.choice.specs.declared.Seat.{Seat}
+use Rattle.choice.specs.declared.Score.{Score}
+use Rattle.choice.specs.declared.Best.{Best}
+use Rattle.choice.specs.declared.Best.the-variants.{Nothing, At}
+
+-- the bounds of n and s: each block adds two pieces at most, and one interval
+abbrev pub max-pieces : ℕ
+max-pieces = 2 * max-blocks
+
+abbrev pub max-stretch : ℕ
+max-stretch = 2 * max-rows * max-blocks
+
+-- ---- one block
+
+-- block k of B and its home
+pub record Seated (B : Placed) (L : ℕ → List Interval) (k : ℕ) (s : Seat) : Type 0 where
+  pub column : s .column ≡ B .column k
+  pub bottom : s .bottom ≡ B .bottom k
+  pub top : s .top ≡ B .top k
+  pub home : interval (s .floor) (s .roof) ≡ home B L k
+  pub on-device : s .column < max-columns
+  pub below : s .floor ≤ s .bottom
+  pub full : s .bottom < s .top
+  pub above : s .top ≤ s .roof
+  pub roof-small : s .roof ≤ 2 * max-rows
+
+-- the block of `before` stands in the same interval
+abbrev pub same-home : Seat → Seat → Bool
+same-home before s = eqb (before .column) (s .column) && eqb (before .floor) (s .floor)
+
+-- the piece below a block, if it is the first in its interval
+abbrev pub piece-below : Seat → Seat → ℕ
+piece-below before s = bit (not (same-home before s) && ltb (s .floor) (s .bottom))
+
+-- and with the piece above it
+abbrev pub pieces-of : Seat → Seat → ℕ
+pieces-of before s = piece-below before s + bit (ltb (s .top) (s .roof))
+
+-- ---- one position
+
+-- the n and s of column p, bottom y, and the least room above a block
+pub record Scored (d : Device) (b : Book) (t : List ℕ) (p y : ℕ) (s : Score) : Type 0 where
+  pub pieces : s .pieces ≡ judge d b t .n p y
+  pub stretch : s .stretch ≡ judge d b t .s p y
+  pub room : Room (s .room) (placed t p y) (intervals d b)
+  pub pieces-few : s .pieces ≤ max-pieces
+  pub stretch-small : s .stretch ≤ max-stretch
+  pub room-small : s .room < words
+
+-- ---- the best so far
+
+abbrev pub Small : Best → Type 0
+Small Nothing = Unit {0}
+Small (At q z n s) = (n ≤ max-pieces) × (s ≤ max-stretch)
+
+-- b is the position f, with its n and s
+abbrev pub Is : Judge → Found → Best → Type 0
+Is J f Nothing = f ≡ nothing
+Is J f (At q z n s) = (f ≡ at q z) × (n ≡ J .n q z) × (s ≡ J .s q z)
+
+-- the best of b and of column p, bottom y with its n and s: b where both are equal
+abbrev pub better-of : Best → ℕ → ℕ → ℕ → ℕ → Best
+better-of Nothing p y n s = At p y n s
+better-of (At q z m t) p y n s = cond (ltb (n * t) (m * s)) (At p y n s) (At q z m t)
+
+-- ---- the way up a column
+
+-- what `rise` answers: j steps and one more, where j steps are below the room, or are none
+pub record Rises (room step v : ℕ) : Type 0 where
+  pub steps : ℕ
+  pub is : v ≡ suc steps * step
+  pub inside : (steps ≡ 0) ⊎ (steps * step < room)
+  pub small : v ≤ room + step
+
+-- where b is the best below bottom y of column p, c is the best below bottom x
+pub record Climbed (J : Judge) (p y x : ℕ) (b c : Best) : Type 0 where
+  pub small : Small c
+  pub found : (f : Found) → Is J (climb J p y f) b → Is J (climb J p x f) c
+
+-- R is a range of column p: all that it names fits, and not one step more
+pub record FitsRange (d : Device) (b : Book) (t : List ℕ) (p : ℕ) (R : Range) : Type 0 where
+  pub step-is : R .step ≡ step t
+  pub last-in : Steps (step t) (R .first) (R .last)
+  pub all-fit : (y : ℕ) → In (step t) y (run (R .first) (R .last)) → fits d b t p y ≡ true
+  pub ends : fits d b t p (R .last + step t) ≡ false
+
+-- the ranges of column p
+abbrev pub ranges-in : Device → Book → List ℕ → ℕ → List Run
+ranges-in d b t p = runs (step t) (fits d b t p) (half-rows d)
+
+-- the runs L, as two lists of their firsts and of their lasts
+pub record RangesAre (L : List Run) (firsts lasts : List ℕ) : Type 0 where
+  pub firsts-length : length firsts ≡ length L
+  pub lasts-length : length lasts ≡ length L
+  pub entries : (i : ℕ) (e : Run) → i < length L → run (getD firsts i 0) (getD lasts i 0) ≡ getD L i e
+
+-- ---- the answer
+
+pub record ChosenAt (d : Device) (b : Book) (t : List ℕ) (q z n s : ℕ) : Type 0 where
+  pub chosen : chosen d b t ≡ at q z
+  pub pieces : n ≡ judge d b t .n q z
+  pub stretch : s ≡ judge d b t .s q z
+  pub some-position : no-position d b t ≡ false
+  pub column-small : q < max-columns
+  pub bottom-small : z < 2 * max-rows
+
+-- "of all fitting positions the one with least n / s", or none where "no position fits"
+abbrev pub Chooses : Device → Book → List ℕ → Best → Type 0
+Chooses d b t Nothing = (chosen d b t ≡ nothing) × (no-position d b t ≡ true)
+Chooses d b t (At q z n s) = ChosenAt d b t q z n s

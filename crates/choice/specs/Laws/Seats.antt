@@ -1,0 +1,155 @@
+-- Where a block of a task that fits stands, and its home, from the bytes of a sound record. Assumes nothing.
+use Prim.Native.Nat.{ℕ, suc, _+_, _-_, _*_, _≤_, _<_}
+use mathlib.Core.Path.{_≡_, refl, sym, ap, ap₂, _∙_}
+use mathlib.Core.Bool.{true}
+use mathlib.Core.List.{List, [], _∷_}
+use native.Mathlib.Omega.{arith}
+use native.Mathlib.Nat.{add-assoc}
+use lib.ListN.{length, getD, take, drop}
+use Rattle.runs.specs.Intervals.{Interval, interval, Holds}
+use Rattle.model.specs.Limits.{max-rows, max-columns, reach, column-size, interval-size}
+use Rattle.model.specs.Columns.{Device, columns, top}
+use Rattle.model.specs.Tasks.{word, blocks, block}
+use Rattle.model.specs.Book.{Book, placed, fits, intervals}
+use Rattle.model.specs.Choice.{holder, home}
+use Rattle.model.specs.Record.{part, column-at, device-of, book-of, listed-intervals}
+use Rattle.model.specs.Sound.{count-of, sound}
+use Rattle.model.specs.Laws.Columns.{top-le}
+use Rattle.model.specs.Laws.Tasks.{full-block}
+use Rattle.model.specs.Laws.Fits.{fits-to}
+use Rattle.model.specs.Laws.Limits.{Limits, limits-to}
+use Rattle.model.specs.Laws.Cells.{interval-ends}
+use Rattle.model.specs.Laws.Parts.{length-part, getD-list}
+use Rattle.model.specs.Laws.ColumnPart.{word-part}
+use Rattle.model.specs.Laws.Clauses.{clauses-to}
+use Rattle.model.specs.Laws.WriteBack.{count-listed}
+use Rattle.model.specs.Laws.Sound.{sound-within, listed-said}
+use Rattle.model.specs.Laws.Homes.{found}
+use Rattle.model.specs.Laws.Ends.{column-free, fits-held}
+use Rattle.column.specs.Part.{interval-at, listed-from, listed-in, Part, holding}
+use Rattle.column.specs.Laws.{holding-holder}
+use Rattle.column.specs.declared.Interval.{Interval as Read}
+use Rattle.column.specs.declared.Held.{Held}
+use Rattle.column.specs.declared.Held.the-variants.{In as Inside, Nowhere}
+use Rattle.task.specs.declared.Block.{Block}
+use Rattle.task.specs.Blocks.{Same}
+use Rattle.listing.specs.Columns.{Given}
+use Rattle.choice.specs.Choosing.{Seated}
+
+-- ---- the intervals that a column's part lists
+
+listed-is : (p : List ℕ) (is : List Interval) (d : Interval) (i : ℕ) → ((j : ℕ) → j < length is → interval-at p (i + j) ≡ getD is j d) → listed-from p i (length is) ≡ is
+listed-is p [] d i h = refl
+listed-is p (x ∷ is) d i h =
+    let e : i + 0 ≡ i = omega arith in
+    ap₂ (λ (y : Interval) (l : List Interval). y ∷ l) (rw e at (h 0 (omega arith)))
+    (listed-is p is d (suc i) (λ j q. let f : i + suc j ≡ suc i + j = omega arith in rw f at (h (suc j) (omega arith))))
+
+module _ (r : List ℕ) (s : sound r ≡ true) (c : ℕ) (q : c < max-columns) where
+  -- a column's part lists the free intervals
+  listed-part : listed-in (part r (column-at c) column-size) (count-of r c) ≡ intervals (device-of r) (book-of r) c
+  unfolding listed-in interval-at listed-intervals
+  listed-part =
+      let few = clauses-to r s .few-intervals c q in
+      let n = count-listed r c in
+      (rw n at (listed-is (part r (column-at c) column-size) (listed-intervals r c) (interval 0 0) 0 (λ j l.
+      let k : 0 + j ≡ j = omega arith in
+      rw (k, word-part r (column-at c) column-size (interval-size * j) (omega arith), word-part r (column-at c) column-size (interval-size * j + 2) (omega arith), ← add-assoc)
+      (sym (getD-list (λ i. interval (word r (column-at c + interval-size * i)) (word r (column-at c + interval-size * i + 2))) (count-of r c) j (interval 0 0) (omega arith))))))
+      ∙ listed-said r (clauses-to r s) c q
+
+  -- the part, as it is lent
+  lent : take (column-at c + column-size - column-at c) (drop (column-at c) r) ≡ part r (column-at c) column-size
+  unfolding part
+  lent = let e : column-at c + column-size - column-at c ≡ column-size = omega arith in rw e
+
+  module _ (count : ℕ) (m : count ≡ count-of r c) where
+    -- what `holder` asks of it
+    pub part-lent : Part (take (column-at c + column-size - column-at c) (drop (column-at c) r)) count
+    part-lent =
+        let x = clauses-to r s in
+        let size = x .size in
+        rw lent (record { size = length-part r (column-at c) column-size (omega arith); few = omega (arith, x .few-intervals c q) })
+
+    -- what it answers for a block that stands in one of the free intervals
+    module _ (b t : ℕ) (h : Held) (l : b < t) (g : Holds b t (intervals (device-of r) (book-of r) c))
+        (a : h ≡ holding b t (listed-in (take (column-at c + column-size - column-at c) (drop (column-at c) r)) count)) where
+      found-home : h ≡ Inside (record { bottom = holder (intervals (device-of r) (book-of r) c) b .bottom; top = holder (intervals (device-of r) (book-of r) c) b .top })
+      found-home = a ∙ rw (lent, m, listed-part) (holding-holder b t 0 (intervals (device-of r) (book-of r) c) l (column-free (device-of r) (book-of r) c .canon) g)
+
+      pub home-is : (i : Read) → h ≡ Inside i → interval (i .bottom) (i .top) ≡ holder (intervals (device-of r) (book-of r) c) b
+      home-is i k =
+          let same : _≡_ {A = Read} i (record { bottom = holder (intervals (device-of r) (book-of r) c) b .bottom; top = holder (intervals (device-of r) (book-of r) c) b .top }) = cc found-home in
+          rw same
+
+      pub home-missing : h ≡ Nowhere → ⊥
+      home-missing k = let z : _≡_ {A = ℕ} 0 1 = cc found-home in omega arith
+
+-- ---- a block of a task that fits
+
+-- what is known of block k: where it stands, as numbers, and that an interval holds it
+pub record Stood (d : Device) (b : Book) (t : List ℕ) (p y k : ℕ) : Type 0 where
+  pub column : p + block t k .column < max-columns
+  pub low : reach ≤ y + block t k .low
+  pub full : block t k .low < block t k .high
+  pub high : y + block t k .high ≤ 2 * max-rows + reach
+  pub held : Holds (y + block t k .low - reach) (y + block t k .high - reach) (intervals d b (p + block t k .column))
+
+module _ (r t : List ℕ) (a : Given r t) (p y k : ℕ) (f : fits (device-of r) (book-of r) t p y ≡ true) (l : k < blocks t) where
+  d : Device
+  d = device-of r
+
+  b : Book
+  b = book-of r
+
+  limits : Limits d b
+  unfolding d b
+  limits = limits-to d b (sound-within r (a .sound))
+
+  pub stood : Stood (device-of r) (book-of r) t p y k
+  unfolding d b
+  stood =
+      let m = limits in
+      let m1 = m .rows in
+      let m2 = m .columns in
+      let g = fits-to d b t p y f k l in
+      let g1 = g .column in
+      let g2 = g .below in
+      let full = full-block t (a .formed) k l in
+      record {
+        column = omega arith;
+        low = g .above;
+        full = full;
+        high = omega (arith, top-le d (p + block t k .column));
+        held = fits-held d b (block t k) p y full g;
+      }
+
+  -- what `seat_at` answers, over the results of its calls
+  pub seated : (c low high : ℕ) (x : Block) (i : Read) → Same x (block t k) → c ≡ p + x .column → low ≡ y + x .low - reach → high ≡ y + x .high - reach
+      → interval (i .bottom) (i .top) ≡ holder (intervals (device-of r) (book-of r) c) low
+      → Seated (placed t p y) (intervals (device-of r) (book-of r)) k (record { column = c; bottom = low; top = high; floor = i .bottom; roof = i .top })
+  unfolding placed home d b
+  seated c low high x i s ec el eh ei =
+      let u = stood in
+      let u1 = u .column in
+      let u2 = u .low in
+      let u3 = u .full in
+      let u4 = u .high in
+      let col : c ≡ p + block t k .column = omega (arith, s .column) in
+      let bot : low ≡ y + block t k .low - reach = omega (arith, s .low) in
+      let top : high ≡ y + block t k .high - reach = omega (arith, s .high) in
+      let h = found low high (omega arith) 0 (intervals d b c) (column-free d b c .canon) (rw (col, bot, top) (u .held)) in
+      let i1 = ap (λ (j : Interval). j .bottom) ei in
+      let i2 = ap (λ (j : Interval). j .top) ei in
+      let m = limits .rows in
+      record {
+        column = col;
+        bottom = bot;
+        top = top;
+        home = ei ∙ rw (col, bot);
+        on-device = omega arith;
+        below = omega (arith, h .below);
+        full = omega arith;
+        above = omega (arith, h .above);
+        roof-small = omega (arith, interval-ends d b c (holder (intervals d b c) low) (h .member), top-le d c);
+      }

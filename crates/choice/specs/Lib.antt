@@ -1,0 +1,3 @@
+-- What the contracts of this crate cite beside the model. What is proved of it stands in Laws.
+pub mod Choosing
+pub mod Laws

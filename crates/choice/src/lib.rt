@@ -1,0 +1,271 @@
+// The best position of a task on a sound record: the score of a position, the way up a range, a column, and all columns.
+// Only the lowest and the highest bottom of each stretch in which no block leaves its free interval are scored: between them s stays the same
+// and n is no less (model/specs/Laws/Ends.antt).
+ghost use mathlib.Core.Path.{_≡_};
+ghost use Prim.Native.Nat.{suc, _≤_, _<_};
+ghost use mathlib.Core.Bool.{true};
+ghost use lib.Dec.{ltb};
+ghost use Rattle.runs.specs.Intervals.{interval, Holds};
+ghost use Rattle.model.specs.Limits.{max-columns, words};
+ghost use Rattle.model.specs.Columns.{half-rows};
+ghost use Rattle.model.specs.Tasks.{blocks, step as step-of};
+ghost use Rattle.model.specs.Book.{placed, fits, intervals};
+ghost use Rattle.model.specs.Choice.{holder, judge};
+ghost use Rattle.model.specs.Record.{device-of, book-of};
+ghost use Rattle.model.specs.Sound.{sound};
+ghost use Rattle.model.specs.Laws.Homes.{bit};
+ghost use Rattle.listing.specs.Arrays.{Room};
+ghost use Rattle.listing.specs.Columns.{Given};
+ghost use Rattle.choice.specs.Choosing.{Seated, piece-below, pieces-of, max-pieces, max-stretch, Scored, Small, better-of, Rises, Climbed, FitsRange, ranges-in, RangesAre, Chooses};
+use column::Held;
+use column::Interval;
+use runs::Range;
+use words::lower;
+
+// More room than any block has.
+const MOST_ROOM: u32 = 65535;
+
+// A block where it stands, and the bottom and the top of the free interval that holds it.
+struct Seat {
+    column: u32,
+    bottom: u32,
+    top: u32,
+    floor: u32,
+    roof: u32,
+}
+
+// A position's n and s, and the least room above a block in its interval.
+pub struct Score {
+    pub pieces: u32,
+    pub stretch: u32,
+    pub room: u32,
+}
+
+// The best position so far, with its n and s.
+pub enum Best {
+    Nothing,
+    At {
+        column: u32,
+        bottom: u32,
+        pieces: u32,
+        stretch: u32,
+    },
+}
+
+// The free interval of column c that holds bottom..top, where there is one: the other branch is never taken.
+fn home(record: &[u8], c: usize, bottom: u32, top: u32) -> Interval
+    requires { ⌜ (sound (now «record») ≡ true) × (c < max-columns) × (bottom < top) × Holds bottom top (intervals (device-of (now «record»)) (book-of (now «record»)) c) ⌝ }
+    ensures { λ r. ⌜ interval (r .bottom) (r .top) ≡ holder (intervals (device-of (now («record» .entry))) (book-of (now («record» .entry))) c) bottom ⌝ }
+{
+    let start = model::INTERVALS_AT + model::COLUMN_SIZE * c;
+    let end = start + model::COLUMN_SIZE;
+    let count = words::wide(record[model::COUNTS_AT + c]) as usize;
+    let Held::In(i) = column::holder(&record[start..end], count, bottom, top) else {
+        return Interval { bottom: 0, top: 0 };
+    };
+    i
+}
+
+// Block k of a task at column, bottom, and its home.
+fn seat_at(record: &[u8], task: &[u8], column: u32, bottom: u32, k: usize) -> Seat
+    requires { ⌜ Given (now «record») (now task) × (fits (device-of (now «record»)) (book-of (now «record»)) (now task) column bottom ≡ true) × (k < blocks (now task)) ⌝ }
+    ensures { λ r. ⌜ Seated (placed (now (task .entry)) column bottom) (intervals (device-of (now («record» .entry))) (book-of (now («record» .entry)))) k r ⌝ }
+{
+    let b = task::block_at(task, k);
+    let c = column + b.column;
+    let low = bottom + b.low - model::REACH;
+    let high = bottom + b.high - model::REACH;
+    let i = home(record, c as usize, low, high);
+    Seat {
+        column: c,
+        bottom: low,
+        top: high,
+        floor: i.bottom,
+        roof: i.top,
+    }
+}
+
+// 1 where a is less than b.
+fn less(a: u32, b: u32) -> u32
+    ensures { λ r. ⌜ (r ≡ bit (ltb a b)) × (r ≤ 1) ⌝ }
+{
+    if a < b {
+        return 1;
+    }
+    0
+}
+
+// 1 for the piece below a block, unless the block before it stands in the same interval.
+fn piece_below(before: Seat, seat: Seat) -> u32
+    ensures { λ r. ⌜ (r ≡ piece-below before seat) × (r ≤ 1) ⌝ }
+{
+    if before.column != seat.column {
+        return less(seat.floor, seat.bottom);
+    }
+    if before.floor != seat.floor {
+        return less(seat.floor, seat.bottom);
+    }
+    0
+}
+
+// The pieces that a block adds to n: the one below it and the one above it.
+fn pieces_of(before: Seat, seat: Seat) -> u32
+    ensures { λ r. ⌜ (r ≡ pieces-of before seat) × (r ≤ 2) ⌝ }
+{
+    piece_below(before, seat) + less(seat.top, seat.roof)
+}
+
+// The score of a position at which the task fits.
+pub fn score_at(record: &[u8], task: &[u8], column: u32, bottom: u32) -> Score
+    requires { ⌜ Given (now «record») (now task) × (fits (device-of (now «record»)) (book-of (now «record»)) (now task) column bottom ≡ true) ⌝ }
+    ensures { λ r. ⌜ Scored (device-of (now («record» .entry))) (book-of (now («record» .entry))) (now (task .entry)) column bottom r ⌝ }
+{
+    let count = task.len() / model::BLOCK_SIZE;
+    let mut pieces: u32 = 0;
+    let mut stretch: u32 = 0;
+    let mut room: u32 = MOST_ROOM;
+    // No block stands in this column, so the first block is the first in its interval.
+    let mut before = Seat {
+        column: model::MAX_COLUMNS as u32,
+        bottom: 0,
+        top: 0,
+        floor: 0,
+        roof: 0,
+    };
+    let mut k: usize = 0;
+    while k < count {
+        let seat = seat_at(record, task, column, bottom, k);
+        pieces += pieces_of(before, seat);
+        stretch += seat.roof - seat.floor;
+        room = lower(room, seat.roof - seat.top);
+        before = seat;
+        k += 1;
+    }
+    Score {
+        pieces,
+        stretch,
+        room,
+    }
+}
+
+// The better of the best so far and a position: the one with less n / s, by cross-products, and the best so far where they are equal.
+fn consider(best: Best, column: u32, bottom: u32, pieces: u32, stretch: u32) -> Best
+    requires { ⌜ Small best × (pieces ≤ max-pieces) × (stretch ≤ max-stretch) ⌝ }
+    ensures { λ r. ⌜ (r ≡ better-of best column bottom pieces stretch) × Small r ⌝ }
+{
+    let new = Best::At {
+        column,
+        bottom,
+        pieces,
+        stretch,
+    };
+    let Best::At {
+        column: _,
+        bottom: _,
+        pieces: n,
+        stretch: s,
+    } = best
+    else {
+        return new;
+    };
+    if pieces * s < n * stretch {
+        return new;
+    }
+    best
+}
+
+// How far up the next bottom to score is: the room, rounded up to whole steps, and one step at least.
+fn rise(room: u32, step: u32) -> u32
+    requires { ⌜ (room < words) × (1 ≤ step) × (step < 256) ⌝ }
+    ensures { λ r. ⌜ Rises room step r ⌝ }
+{
+    if room == 0 {
+        return step;
+    }
+    ((room - 1) / step + 1) * step
+}
+
+// The better of the best so far and the bottoms of a range.
+fn climb_range(record: &[u8], task: &[u8], column: u32, range: Range, best: Best) -> Best
+    requires { ⌜ Given (now «record») (now task) × FitsRange (device-of (now «record»)) (book-of (now «record»)) (now task) column range × Small best ⌝ }
+    ensures { λ r. ⌜ Climbed (judge (device-of (now («record» .entry))) (book-of (now («record» .entry))) (now (task .entry))) column (range .first) (suc (range .last)) best r ⌝ }
+{
+    let mut best = best;
+    let mut y = range.first;
+    while y <= range.last {
+        let s = score_at(record, task, column, y);
+        best = consider(best, column, y, s.pieces, s.stretch);
+        y += rise(s.room, range.step);
+    }
+    best
+}
+
+// The better of the best so far and the bottoms of all ranges of a column, whose firsts and lasts are lent.
+fn climb_ranges(
+    record: &[u8],
+    task: &[u8],
+    column: u32,
+    step: u32,
+    firsts: &[u32],
+    lasts: &[u32],
+    best: Best,
+) -> Best
+    requires { ⌜ Given (now «record») (now task) × (step ≡ step-of (now task)) × RangesAre (ranges-in (device-of (now «record»)) (book-of (now «record»)) (now task) column) (now firsts) (now lasts) × Small best ⌝ }
+    ensures { λ r. ⌜ Climbed (judge (device-of (now («record» .entry))) (book-of (now («record» .entry))) (now (task .entry))) column 0 (half-rows (device-of (now («record» .entry)))) best r ⌝ }
+{
+    let mut best = best;
+    let mut i: usize = 0;
+    while i < firsts.len() {
+        let range = Range {
+            first: firsts[i],
+            last: lasts[i],
+            step,
+        };
+        best = climb_range(record, task, column, range, best);
+        i += 1;
+    }
+    best
+}
+
+// The better of the best so far and all positions of a column. The two slices have room for its ranges.
+fn climb_column(
+    record: &[u8],
+    task: &[u8],
+    column: u32,
+    step: u32,
+    firsts: &mut [u32],
+    lasts: &mut [u32],
+    best: Best,
+) -> Best
+    requires { ⌜ Given (now «record») (now task) × (column < max-columns) × (step ≡ step-of (now task)) × Room (now firsts) (now lasts) × Small best ⌝ }
+    ensures { λ r. ⌜ Climbed (judge (device-of (now («record» .entry))) (book-of (now («record» .entry))) (now (task .entry))) column 0 (half-rows (device-of (now («record» .entry)))) best r ⌝ }
+{
+    let count = listing::column_ranges(record, task, column as usize, firsts, lasts);
+    climb_ranges(
+        record,
+        task,
+        column,
+        step,
+        &firsts[..count],
+        &lasts[..count],
+        best,
+    )
+}
+
+// The best position of a task on all columns, or nothing where no position fits.
+pub fn best_position(record: &[u8], task: &[u8]) -> Best
+    requires { ⌜ Given (now «record») (now task) ⌝ }
+    ensures { λ r. ⌜ Chooses (device-of (now («record» .entry))) (book-of (now («record» .entry))) (now (task .entry)) r ⌝ }
+{
+    let step = task::step(task);
+    let last = words::wide(record[model::COLUMNS_AT]) - 1;
+    let mut firsts = [0u32; model::MAX_INTERVALS];
+    let mut lasts = [0u32; model::MAX_INTERVALS];
+    let mut best = Best::Nothing;
+    let mut column: u32 = 0;
+    while column <= last {
+        best = climb_column(record, task, column, step, &mut firsts, &mut lasts, best);
+        column += 1;
+    }
+    best
+}

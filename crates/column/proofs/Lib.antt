@@ -1,0 +1,2 @@
+-- What the proofs of `column` share.
+pub mod Laws

@@ -1,0 +1,3 @@
+-- What the contracts of `column` cite, and what is proved of it.
+pub mod Part
+pub mod Laws

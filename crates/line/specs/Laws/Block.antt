@@ -1,0 +1,75 @@
+-- A block call's bytes are read back as the block that it says. Assumes nothing.
+use Prim.Native.Nat.{ℕ, suc, _+_, _-_, _*_, _/_, _%_, _≤_, _<_}
+use mathlib.Core.Path.{_≡_, refl, sym, ap, _∙_}
+use mathlib.Core.List.{List, [], _∷_, _++_}
+use native.Mathlib.Omega.{arith}
+use native.Mathlib.Nat.{add-zero}
+use lib.ListN.{length, getD, set}
+use lib.IntN.{ℤ, pos, negsuc, natAbs, _+ℤ_}
+use lib.Signed.{mag}
+use mir.Syntax.{w16, w32}
+use mir.Val.{SFits, toZ, ofZ}
+use mir.Facts.{toZ-ofZ}
+use borrow.Author.Tests.{le-ltb}
+use Rattle.model.specs.Limits.{block-size}
+use Rattle.model.specs.Tasks.{word, lifted, block}
+use Rattle.model.specs.Kinds.{number-of}
+use Rattle.model.specs.Laws.Parts.{splice, part-splice, getD-part, set-two, splice-more}
+use Rattle.line.specs.Block.{word-bytes, block-bytes}
+use Rattle.line.specs.declared.call.BlockCall.{BlockCall}
+
+-- ---- two's complement
+
+-- `(z + 65536) % 65536`, as the code reckons it
+pub up : (z : ℤ) → mag z < 32768 → (z +ℤ pos 65536 ≡ pos (natAbs (z +ℤ pos 65536))) × (natAbs (z +ℤ pos 65536) < 98304) × (natAbs (z +ℤ pos 65536) % 65536 ≡ ofZ w16 z)
+up (pos n) h = (refl, omega arith, omega arith)
+up (negsuc n) h = rw (le-ltb 65536 (suc n) (omega arith)) (refl, omega arith, omega arith)
+
+pub up-fits : (z : ℤ) → mag z < 32768 → SFits w32 (z +ℤ pos 65536)
+up-fits z h = let u = up z h in rw (u .0) (record { sfits = omega arith })
+
+pub bits-small : (z : ℤ) → mag z < 32768 → ofZ w16 z < 65536
+bits-small (pos n) h = omega arith
+bits-small (negsuc n) h = omega arith
+
+-- ---- six stores
+
+pub six-stores : (r : List ℕ) (at : ℕ) (b : BlockCall) → at + block-size ≤ length r
+    → splice (splice (set (set r at (b .column)) (at + 1) (number-of (b .kind))) (at + 2) 2 (word-bytes (b .bottom))) (at + 4) 2 (word-bytes (b .top)) ≡ splice r at block-size (block-bytes b)
+six-stores r at b h =
+    let head = b .column ∷ number-of (b .kind) ∷ [] in
+    let e : at + 2 + 2 ≡ at + 4 = omega arith in
+    rw (set-two r at (b .column) (number-of (b .kind)) (omega arith), splice-more r at 2 2 head (word-bytes (b .bottom)) (omega arith) refl)
+    (splice-more r at 4 2 (head ++ word-bytes (b .bottom)) (word-bytes (b .top)) (omega arith) refl)
+
+-- ---- read back
+
+module _ (r : List ℕ) (i : ℕ) (b : BlockCall) (fits : block-size * i + block-size ≤ length r) where
+  written : List ℕ
+  written = splice r (block-size * i) block-size (block-bytes b)
+
+  byte : (k : ℕ) → k < block-size → getD written (block-size * i + k) 0 ≡ getD (block-bytes b) k 0
+  unfolding written
+  byte k h = sym (getD-part written (block-size * i) block-size k 0 h) ∙ ap (λ p. getD p k 0) (part-splice r (block-size * i) block-size (block-bytes b) fits refl)
+
+  first-byte : getD written (block-size * i) 0 ≡ b .column
+  first-byte = sym (ap (λ n. getD written n 0) (add-zero (block-size * i))) ∙ byte 0 (omega arith)
+
+  word-at : (k n : ℕ) → k + 1 < block-size → getD (block-bytes b) k 0 ≡ n % 256 → getD (block-bytes b) (k + 1) 0 ≡ n / 256 → word written (block-size * i + k) ≡ n
+  unfolding word
+  word-at k n h p q =
+      let e : block-size * i + k + 1 ≡ block-size * i + (k + 1) = omega arith in
+      rw (e, byte k (omega arith), byte (k + 1) h, p, q) (omega arith)
+
+  -- block i of the draft is the block that the call says, with its bottom and top in two's complement
+  pub block-read : block (splice r (block-size * i) block-size (block-bytes b)) i
+      ≡ record { column = b .column; kind = number-of (b .kind); low = lifted (ofZ w16 (b .bottom)); high = lifted (ofZ w16 (b .top)) }
+  unfolding block written
+  block-read = rw (first-byte, byte 1 (omega arith), word-at 2 (ofZ w16 (b .bottom)) (omega arith) refl refl, word-at 4 (ofZ w16 (b .top)) (omega arith) refl refl)
+
+  -- and its bottom and top are the values that the call has
+  pub values-read : SFits w16 (b .bottom) → SFits w16 (b .top) → let t = splice r (block-size * i) block-size (block-bytes b) in
+      (toZ w16 (word t (block-size * i + 2)) ≡ b .bottom) × (toZ w16 (word t (block-size * i + 4)) ≡ b .top)
+  unfolding written
+  values-read f g =
+      rw (word-at 2 (ofZ w16 (b .bottom)) (omega arith) refl refl, word-at 4 (ofZ w16 (b .top)) (omega arith) refl refl) (toZ-ofZ {w = w16} f, toZ-ofZ {w = w16} g)

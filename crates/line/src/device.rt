@@ -1,0 +1,111 @@
+// The first three lines of a sheet: two names lines, and the line of rows and kinds between them.
+ghost use mathlib.Core.Path.{_≡_};
+ghost use lib.ListN.{length};
+ghost use Prim.Native.Nat.{_+_, _≤_};
+ghost use Rattle.model.specs.Limits.{max-line};
+ghost use Rattle.model.specs.Laws.Parts.{splice};
+ghost use Rattle.model.specs.Sheet.{first-names, second-names, kind-letters, device-line};
+ghost use Rattle.line.specs.Device.{Says, known, kind-or-zero, kinds-of, rows-of, kinds-left};
+use crate::MAX_LINE;
+use crate::MAX_ROWS_FIELD;
+use crate::fields;
+use crate::fields::Natural;
+use model::KindRead;
+
+// The rows of a device and how many columns it has, if its line is well-formed.
+pub enum Rows {
+    Device { rows: u32, count: usize },
+    Malformed,
+}
+
+// Whether two texts are equal.
+fn same(a: &[u8], b: &[u8]) -> bool
+    ensures { λ r. ⌜ Says (now (a .entry) ≡ now (b .entry)) r ⌝ }
+{
+    if a.len() != b.len() {
+        return false;
+    }
+    let mut i = 0;
+    while i < a.len() {
+        if a[i] != b[i] {
+            return false;
+        }
+        i += 1;
+    }
+    true
+}
+
+pub fn is_first_names(line: &[u8]) -> bool
+    ensures { λ r. ⌜ Says (now (line .entry) ≡ first-names) r ⌝ }
+{
+    same(line, b"rows kinds")
+}
+
+pub fn is_second_names(line: &[u8]) -> bool
+    ensures { λ r. ⌜ Says (now (line .entry) ≡ second-names) r ⌝ }
+{
+    same(line, b"call task column kind bottom top")
+}
+
+// Whether all letters are kinds.
+fn all_kinds(letters: &[u8]) -> bool
+    ensures { λ r. ⌜ r ≡ known (kind-letters (now (letters .entry))) ⌝ }
+{
+    let mut i = 0;
+    while i < letters.len() {
+        let KindRead::Known(_) = fields::kind_letter(letters[i]) else {
+            return false;
+        };
+        i += 1;
+    }
+    true
+}
+
+// The number of a letter's kind, 0 where there is none.
+fn kind_number(letter: u8) -> u8
+    ensures { λ r. ⌜ r ≡ kind-or-zero letter ⌝ }
+{
+    let KindRead::Known(kind) = fields::kind_letter(letter) else {
+        return 0;
+    };
+    kind.number()
+}
+
+// The kind numbers of some letters.
+fn put_kinds(letters: &[u8], kinds: &mut [u8])
+    requires { ⌜ length (now letters) ≤ length (now kinds) ⌝ }
+    ensures { λ _. ⌜ now (kinds .exit) ≡ splice (now (kinds .entry)) 0 (length (now (letters .entry))) (kinds-of (now (letters .entry))) ⌝ }
+{
+    let mut i = 0;
+    while i < letters.len() {
+        kinds[i] = kind_number(letters[i]);
+        i += 1;
+    }
+}
+
+// The device of a line: its kinds go to the front of `kinds`, which stays as it was where the line is malformed.
+pub fn rows_line(line: &[u8], kinds: &mut [u8]) -> Rows
+    requires { ⌜ max-line ≤ length (now kinds) ⌝ }
+    ensures { λ r. ⌜ (r ≡ rows-of (device-line (now (line .entry)))) × (now (kinds .exit) ≡ kinds-left (device-line (now (line .entry))) (now (kinds .entry))) ⌝ }
+{
+    if MAX_LINE < line.len() {
+        return Rows::Malformed;
+    }
+    let Natural::Value(rows, at) = fields::natural_field(line, 0, MAX_ROWS_FIELD) else {
+        return Rows::Malformed;
+    };
+    if line.len() <= at {
+        return Rows::Malformed;
+    }
+    if fields::field_end(line, at) < line.len() {
+        return Rows::Malformed;
+    }
+    if !all_kinds(&line[at..]) {
+        return Rows::Malformed;
+    }
+    put_kinds(&line[at..], kinds);
+    Rows::Device {
+        rows: rows,
+        count: line.len() - at,
+    }
+}

@@ -1,0 +1,90 @@
+-- A call on any byte string, by the first refusal that applies: what each return of an exported function shows. Assumes nothing.
+use Prim.Native.Nat.{ℕ, _≤_, _<_}
+use mathlib.Core.Path.{_≡_, refl, sym, ap, _∙_}
+use mathlib.Core.Logic.{_≢_}
+use mathlib.Core.Bool.{true, false}
+use mathlib.Core.Option.{Option, none, some}
+use mathlib.Core.List.{List, []}
+use borrow.Author.Tests.{eq-eqb, ne-eqb, lt-ltb, le-ltb}
+use lib.IntN.{pos, negℤ}
+use lib.ListN.{length}
+use Rattle.model.specs.Limits.{record-size}
+use Rattle.model.specs.Columns.{Device, columns, device-ok}
+use Rattle.model.specs.Book.{intervals}
+use Rattle.model.specs.Record.{record-of, device-of, book-of}
+use Rattle.model.specs.Sound.{sound}
+use Rattle.model.specs.Calls.{Call, Outcome, refused, refusals, unless, lent, done, on-book}
+use Rattle.model.specs.OnRecord.{written, on-record, new, interval-count}
+use Rattle.model.specs.Laws.WriteBack.{Bytes}
+use Rattle.model.specs.Laws.Sound.{sound-length, sound-record}
+
+-- the call answers − n and changes nothing
+abbrev pub refusal : ℕ → Call → List ℕ → Outcome (List ℕ)
+refusal n c r = record { answer = negℤ (pos n); output = lent c; state = r }
+
+module _ (r : List ℕ) (c : Call) where
+  -- −1
+  pub wrong-length-call : length r ≢ record-size → on-record r c ≡ refusal 1 c r
+  unfolding on-record unless refused
+  wrong-length-call h = rw (ne-eqb (length r) record-size h)
+
+  -- −2
+  pub not-sound-call : length r ≡ record-size → sound r ≡ false → on-record r c ≡ refusal 2 c r
+  unfolding on-record unless refused
+  not-sound-call h s = rw (eq-eqb (length r) record-size h, s)
+
+  module _ (s : sound r ≡ true) where
+    sound-call : on-record r c ≡ written (device-of r) (on-book (device-of r) (book-of r) c)
+    unfolding on-record unless refused
+    sound-call = rw (eq-eqb (length r) record-size (sound-length r s), s)
+
+    -- a refusal that the book gives
+    pub refused-call : Bytes r → (n : ℕ) → refused (refusals (device-of r) (book-of r) c) ≡ some n → on-record r c ≡ refusal n c r
+    unfolding written on-book unless
+    refused-call b n e =
+        sound-call ∙ rw e (ap (λ (l : List ℕ). refusal n c l) (sym (sound-record r b s)))
+
+    -- the call is done, and the record is that of the book after it
+    pub done-call : refused (refusals (device-of r) (book-of r) c) ≡ none → on-record r c ≡ written (device-of r) (done (device-of r) (book-of r) c)
+    unfolding on-book unless
+    done-call e = sound-call ∙ rw e
+
+-- ---- new
+
+-- it answers − n and changes nothing
+abbrev pub plain-refusal : ℕ → List ℕ → Outcome (List ℕ)
+plain-refusal n r = record { answer = negℤ (pos n); output = []; state = r }
+
+module _ (r : List ℕ) (rows : ℕ) (kinds : List ℕ) where
+  pub new-wrong-length : length r ≢ record-size → new r rows kinds ≡ plain-refusal 1 r
+  unfolding new unless refused
+  new-wrong-length h = rw (ne-eqb (length r) record-size h)
+
+  pub new-bad-device : length r ≡ record-size → device-ok (record { rows = rows; kinds = kinds }) ≡ false → new r rows kinds ≡ plain-refusal 3 r
+  unfolding new unless refused
+  new-bad-device h e = rw (eq-eqb (length r) record-size h, e)
+
+  pub new-done : length r ≡ record-size → device-ok (record { rows = rows; kinds = kinds }) ≡ true
+      → new r rows kinds ≡ record { answer = pos 0; output = []; state = record-of (record { rows = rows; kinds = kinds }) [] }
+  unfolding new unless refused
+  new-done h e = rw (eq-eqb (length r) record-size h, e)
+
+-- ---- the interval count
+
+module _ (r : List ℕ) (c : ℕ) where
+  pub count-wrong-length : length r ≢ record-size → interval-count r c ≡ plain-refusal 1 r
+  unfolding interval-count unless refused
+  count-wrong-length h = rw (ne-eqb (length r) record-size h)
+
+  pub count-not-sound : length r ≡ record-size → sound r ≡ false → interval-count r c ≡ plain-refusal 2 r
+  unfolding interval-count unless refused
+  count-not-sound h s = rw (eq-eqb (length r) record-size h, s)
+
+  pub count-no-column : sound r ≡ true → columns (device-of r) ≤ c → interval-count r c ≡ plain-refusal 3 r
+  unfolding interval-count unless refused
+  count-no-column s h = rw (eq-eqb (length r) record-size (sound-length r s), s, le-ltb c (columns (device-of r)) h)
+
+  pub count-done : sound r ≡ true → c < columns (device-of r)
+      → interval-count r c ≡ record { answer = pos (length (intervals (device-of r) (book-of r) c)); output = []; state = r }
+  unfolding interval-count unless refused
+  count-done s h = rw (eq-eqb (length r) record-size (sound-length r s), s, lt-ltb c (columns (device-of r)) h)

@@ -1,0 +1,1 @@
+// Nothing runs here: the laws for signed numbers stand in proofs/Signed.antt.
