@@ -85,11 +85,17 @@ fn lower(firsts: &mut [u32], lasts: &mut [u32], n: usize)
     }
 }
 
-// The step of what ranges of two steps both name: that of what two such ranges name at 0.
+// The step of what ranges of two steps both name: that of what two such ranges name at 0. Most often it is a.
 fn common_step(a: u32, b: u32) -> u32
     requires { ⌜ Step a × Step b ⌝ }
     ensures { λ r. ⌜ Lcm a b r ⌝ }
 {
+    if a == b {
+        return a;
+    }
+    if a % b == 0 {
+        return a;
+    }
     let x = Range {
         first: 0,
         last: 0,

@@ -1,10 +1,10 @@
 -- The laws of lists of runs in two arrays. Assumes nothing.
-use Prim.Native.Nat.{ℕ, zero, suc, _+_, _-_, _*_, _≤_, _<_}
+use Prim.Native.Nat.{ℕ, zero, suc, _+_, _-_, _*_, _/_, _%_, _≤_, _<_}
 use mathlib.Core.Path.{_≡_, refl, sym, ap, subst, _∙_}
 use mathlib.Core.Logic.{_⊎_, inl, inr}
 use mathlib.Core.List.{List, [], _∷_, _++_, map, append-assoc}
 use native.Mathlib.Omega.{arith}
-use native.Mathlib.Nat.{mul-le-mul-left}
+use native.Mathlib.Nat.{mul-le-mul-left, div-add-mod'}
 use native.Mathlib.Numerals.{add-one}
 use lib.ListN.{length, getD, set, drop, length-append, length-set, List·getD-append}
 use lib.Seq.{getD-set-same, getD-set-other, drop-cons, getD-append-add}
@@ -12,7 +12,8 @@ use mathlib.Core.Bool.{Bool, true, false}
 use lib.Dec.{eqb}
 use borrow.Author.Tests.{eqb-true, eqb-false}
 use Rattle.runs.specs.Laws.Tests.{lt-or-ge}
-use Rattle.runs.specs.Meet.{Step, Proper, Both-of, Meets}
+use Rattle.runs.specs.Intervals.{Multiple}
+use Rattle.runs.specs.Meet.{Step, Proper, Lcm, Both-of, Meets}
 use Rattle.runs.specs.declared.Range.{Range}
 use Rattle.runs.specs.declared.Met.{Met}
 use Rattle.runs.specs.declared.Met.the-variants.{Empty, Both}
@@ -222,6 +223,22 @@ pub met-both : (a b : Range) (m : Met) (r : Range) → m ≡ Both r → Meets a 
 met-both a b m r e h = met-is a b m (Both r) e h
 
 -- ---- the least common multiple, as the step of what is named at 0
+
+-- a is a multiple of b
+lcm-left : (a b : ℕ) → Step a → Step b → Multiple b a → Lcm a b a
+lcm-left a b p q m = record {
+  pos = p .0;
+  small = omega (arith, mul-le-mul-left {m = 1} {n = b} a (q .0));
+  left = (1, omega arith);
+  right = m;
+  least = λ x h k. h;
+}
+
+pub lcm-same : (a b : ℕ) → Step a → Step b → a ≡ b → Lcm a b a
+lcm-same a b p q e = lcm-left a b p q (1, omega arith)
+
+pub lcm-divides : (a b : ℕ) → Step a → Step b → a % b ≡ 0 → Lcm a b a
+lcm-divides a b p q e = lcm-left a b p q (a / b, omega (arith, div-add-mod' a b))
 
 proper-zero : (s : ℕ) → Step s → Proper (record { first = 0; last = 0; step = s })
 proper-zero s p = record { step = p; last = (0, omega arith); bound = omega arith }
