@@ -1,12 +1,7 @@
 //! The calls of document 01 as a trait, with one type for each implementation.
 //!
-//! Tests and benchmarks are written over [`Calls`] and take any of them. To add
-//! the proved library:
-//! - in `host/Cargo.toml`, `card` moves from `exclude` to `members`;
-//! - in this crate's `Cargo.toml`, `card = { path = "../card" }`;
-//! - in this file, `implementation!(Card, card, "proved");` and [`SUBJECTS`] as
-//!   `[&dyn Calls; 2] = [&Card, &Plain]`;
-//! - in `trials/tests/suite.rs`, `trials!(card, calls::Card);`.
+//! Tests and benchmarks are written over [`Calls`] and take any of them: the proved
+//! library, plain Rust, and the oracle.
 
 #![deny(missing_docs)]
 #![forbid(unsafe_code)]
@@ -85,6 +80,7 @@ macro_rules! implementation {
 
 implementation!(Oracle, oracle::calls, "oracle");
 implementation!(Plain, plain, "plain");
+implementation!(Card, card, "proved");
 
 /// The implementations that are tried and measured, the one in question first.
-pub const SUBJECTS: [&dyn Calls; 1] = [&Plain];
+pub const SUBJECTS: [&dyn Calls; 2] = [&Card, &Plain];

@@ -176,3 +176,4 @@ macro_rules! trials {
 }
 
 trials!(plain, calls::Plain);
+trials!(card, calls::Card);
