@@ -133,15 +133,15 @@ pub fn busy(subject: &dyn Calls, tasks: usize) -> Load {
     load
 }
 
-/// A card with 63 combs of 32 blocks in 32 columns: with the measured one, as many tasks as can run.
-pub fn combs(subject: &dyn Calls) -> Load {
+/// A card with 63 combs of so many blocks in 32 columns: with the measured one, as many tasks as can run.
+pub fn combs(subject: &dyn Calls, teeth: i16) -> Load {
     let mut load = empty(subject, 128);
-    load.name = "63 combs of 32 blocks".to_string();
+    load.name = format!("63 combs of {teeth} blocks");
     let logic = (0..64).filter(|&column| load.kinds[column as usize] == 0);
     let places = logic.flat_map(|column| [(column, 0), (column, 128)]);
     for (index, (column, bottom)) in places.take(63).enumerate() {
         let number = 1000 * (index as u32 + 1);
-        let placed = subject.place(&mut load.record, &comb(32), number, column, bottom);
+        let placed = subject.place(&mut load.record, &comb(teeth), number, column, bottom);
         assert_eq!(placed, 0);
     }
     load

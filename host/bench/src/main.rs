@@ -52,13 +52,14 @@ fn wish() -> Option<Wish> {
     Some(wish)
 }
 
-/// The three loads; every implementation must come to the same records.
+/// The four loads; every implementation must come to the same records.
 fn loads() -> Vec<Load> {
     let build = |subject| {
         [
             loads::empty(subject, 128),
             loads::busy(subject, 20),
-            loads::combs(subject),
+            loads::combs(subject, 8),
+            loads::combs(subject, 32),
         ]
     };
     let loads = build(SUBJECTS[0]);
