@@ -1,16 +1,16 @@
 -- From what a call is on a byte string to what its function promises, return by return. Assumes nothing.
-use Prim.Native.Nat.{ℕ, _+_, _-_, _*_, _≤_, _<_}
+use Prim.Native.Nat.{ℕ, suc, _+_, _-_, _*_, _≤_, _<_}
 use mathlib.Core.Path.{_≡_, refl, sym, ap, _∙_}
 use mathlib.Core.Logic.{_≢_}
 use mathlib.Core.Bool.{Bool, true, false, not}
 use mathlib.Core.Option.{some}
 use mathlib.Core.List.{List, []}
 use native.Mathlib.Omega.{arith}
-use borrow.Author.Tests.{not-true, not-false, lt-leb, le-leb, leb-false, eqb-true, eqb-false, ltb-true, ltb-false, lt-ltb, le-ltb}
-use lib.Dec.{T, leb, ltb, eqb, leb·suc-zero}
+use borrow.Author.Tests.{not-true, not-false, lt-leb, le-leb, leb-false, lt-ltb, le-ltb}
+use lib.Dec.{T, leb, leb·suc-zero}
 use lib.IntN.{ℤ, pos, negsuc, natAbs}
 use lib.ListN.{length, getD, take, drop}
-use lib.Signed.{ltZ, nonNeg, mag}
+use lib.Signed.{ltZ, nonNeg}
 use mir.Syntax.{w32}
 use mir.Val.{Fits, SFits, toZ, ofZ}
 use mir.Facts.{toZ-ofZ, toZ-pos}
@@ -18,7 +18,7 @@ use Rattle.signed.proofs.Signed.{negative, natural as natural-is, unsigned}
 use Rattle.model.specs.Limits.{max-rows, max-columns, max-intervals, max-running, max-number, record-size, columns-at, running-at, counts-at, interval-size, list-room, column-weight}
 use Rattle.model.specs.Columns.{Device, columns}
 use Rattle.model.specs.Tasks.{sized, well-formed}
-use Rattle.model.specs.Book.{Book, fits, fits-at, intervals}
+use Rattle.model.specs.Book.{Book, fits, fits-at}
 use Rattle.model.specs.Choice.{Found as Place}
 use Rattle.model.specs.Record.{record-of, device-of, book-of, part, column-at}
 use Rattle.model.specs.Sound.{sound, number-ok, count-of}
@@ -27,11 +27,11 @@ use Rattle.model.specs.OnRecord.{written, on-record, interval-count, view-of, v
 use Rattle.model.specs.Laws.Bounded.{clash}
 use Rattle.model.specs.Laws.WriteBack.{Bytes}
 use Rattle.model.specs.Laws.Limits.{limits-to}
-use Rattle.model.specs.Laws.Cells.{few-intervals}
 use Rattle.model.specs.Laws.Listing.{ranges-length}
 use Rattle.model.specs.Laws.Record.{record-count}
 use Rattle.model.specs.Laws.Sound.{columns-said, running-said, sound-within, sound-record}
-use Rattle.model.specs.Laws.OnRecord.{wrong-length-call, not-sound-call, refused-call, done-call, count-wrong-length, count-not-sound, count-no-column, count-done}
+use Rattle.model.specs.Laws.Clauses.{clauses-to}
+use Rattle.model.specs.Laws.OnRecord.{plain-refusal, wrong-length-call, not-sound-call, refused-call, done-call, count-wrong-length, count-not-sound, count-no-column, count-done}
 use Rattle.listing.specs.Columns.{Given}
 use Rattle.record.specs.Entries.{Finds, found-true}
 use Rattle.record.specs.Enter.{Placeable}
@@ -45,7 +45,7 @@ use Rattle.choice.specs.declared.Best.{Best}
 use Rattle.choice.specs.declared.Best.the-variants.{Nothing, At as BestAt}
 use Rattle.card.specs.declared.Check.{Check}
 use Rattle.card.specs.declared.Check.the-variants.{Pass, Refuse}
-use Rattle.card.specs.Leaves.{Changes, Writes, Refused, HasTask, ChecksTask, Placing, ChecksPlace}
+use Rattle.card.specs.Leaves.{Changes, Writes, Refused, Uncounted, ChecksRecord, HasTask, ChecksTask, Placing, ChecksPlace, ChecksRelease, ChecksColumn}
 
 -- the outcome has this answer, this output and this record
 pub answers : {o : Outcome (List ℕ)} {a : ℤ} {l r : List ℕ} → o ≡ record { answer = a; output = l; state = r } → a ≡ o .answer
@@ -54,7 +54,7 @@ answers e = sym (ap (λ (o : Outcome (List ℕ)). o .answer) e)
 pub changes : {o : Outcome (List ℕ)} {a : ℤ} {l r : List ℕ} → o ≡ record { answer = a; output = l; state = r } → Changes o a r
 changes e = record { answer-is = answers e; record-is = sym (ap (λ (o : Outcome (List ℕ)). o .state) e) }
 
-pub writes : {o : Outcome (List ℕ)} {a : ℤ} {l r : List ℕ} → o ≡ record { answer = a; output = l; state = r } → Writes o a l
+writes : {o : Outcome (List ℕ)} {a : ℤ} {l r : List ℕ} → o ≡ record { answer = a; output = l; state = r } → Writes o a l
 writes e = record { answer-is = answers e; output-is = sym (ap (λ (o : Outcome (List ℕ)). o .output) e) }
 
 -- ---- tests
@@ -119,15 +119,37 @@ module _ (d : Device) (b : Book) (t : List ℕ) (p : ℕ) {y : ℤ} (f : SFits w
     pub fits-casts : T (nonNeg (toZ w32 (ofZ w32 y))) × Fits w32 (natAbs (toZ w32 (ofZ w32 y)))
     fits-casts = unsigned f tt cast-test
 
+-- ---- the checks of every call
+
+-- a refusal of the interval count leaves no view
+uncounted : (r : List ℕ) (k m : ℕ) → interval-count r k ≡ plain-refusal (suc m) r → Uncounted r k (negsuc m)
+unfolding view view-of
+uncounted r k m e = (answers e, rw e)
+
+pub check-length : (r : List ℕ) → length r ≢ record-size → ChecksRecord r (Refuse (negsuc 0))
+check-length r h = (λ c. wrong-length-call r c h, λ k. uncounted r k 0 (count-wrong-length r k h))
+
+pub check-sound : (r : List ℕ) → length r ≡ record-size → sound r ≡ false → ChecksRecord r (Refuse (negsuc 1))
+check-sound r h s = (λ c. not-sound-call r c h s, λ k. uncounted r k 1 (count-not-sound r k h s))
+
+-- and what a call learns of them
+module _ (r : List ℕ) (x : Check) (h : ChecksRecord r x) where
+  pub checked : x ≡ Pass → sound r ≡ true
+  checked e = rw e at h
+
+  module _ {z : ℤ} (e : x ≡ Refuse z) where
+    pub record-task : (t : List ℕ) → ChecksTask r t x
+    record-task t = rw e (λ c k. (rw e at h) .0 c)
+
+    pub record-release : (n : ℕ) → ChecksRelease r n x
+    record-release n = rw e ((rw e at h) .0 (release n))
+
+    pub record-column : (k : ℕ) → ChecksColumn r k x
+    record-column k = rw e ((rw e at h) .1 k)
+
 -- ---- the checks before list, choose and place
 
 module _ (r t : List ℕ) where
-  pub check-length : length r ≢ record-size → ChecksTask r t (Refuse (negsuc 0))
-  check-length h c k = wrong-length-call r c h
-
-  pub check-sound : length r ≡ record-size → sound r ≡ false → ChecksTask r t (Refuse (negsuc 1))
-  check-sound h s c k = not-sound-call r c h s
-
   module _ (B : Bytes r) (s : sound r ≡ true) where
     pub check-sized : sized t ≡ false → ChecksTask r t (Refuse (negsuc 3))
     unfolding refused refusals
@@ -262,75 +284,59 @@ module _ (r t : List ℕ) (x : Given r t) (a : Best) (h : Chooses (device-of r) 
 
 -- ---- release
 
-module _ (r : List ℕ) (n : ℕ) (s : sound r ≡ true) where
-  pub release-not : Bytes r → runs-in (book-of r) n ≡ false → Refused r (negsuc 10) (release n)
+module _ (r : List ℕ) (n : ℕ) where
+  pub release-not : sound r ≡ true → Bytes r → runs-in (book-of r) n ≡ false → Refused r (negsuc 10) (release n)
   unfolding refused refusals
-  release-not B e = refused-call r (release n) s B 11 (rw e)
+  release-not s B e = refused-call r (release n) s B 11 (rw e)
 
-  pub release-done : runs-in (book-of r) n ≡ true → on-record r (release n) ≡ record { answer = pos 0; output = []; state = record-of (device-of r) (without n (book-of r)) }
-  unfolding refused refusals written done
-  release-done e = done-call r (release n) s (rw e)
+  module _ (x : Check) (h : ChecksRelease r n x) where
+    pub release-refused : {z : ℤ} → x ≡ Refuse z → Refused r z (release n)
+    release-refused e = rw e at h
 
--- ---- the interval count
+    pub release-passed : x ≡ Pass → (sound r ≡ true) × (runs-in (book-of r) n ≡ true)
+    release-passed e = rw e at h
 
--- a sound record has at most 64 columns
-pub few-columns : (r : List ℕ) → sound r ≡ true → getD r columns-at 0 ≤ max-columns
-few-columns r s = omega (arith, columns-said r, limits-to (device-of r) (book-of r) (sound-within r s) .columns)
+    pub release-done : x ≡ Pass → on-record r (release n) ≡ record { answer = pos 0; output = []; state = record-of (device-of r) (without n (book-of r)) }
+    unfolding refused refusals written done
+    release-done e = let (s, q) = release-passed e in done-call r (release n) s (rw q)
 
-module _ (r : List ℕ) (c : ℕ) where
-  pub counts-length : length r ≢ record-size → negsuc 0 ≡ interval-count r c .answer
-  counts-length h = answers (count-wrong-length r c h)
+-- ---- the interval count and the view
 
-  pub counts-sound : length r ≡ record-size → sound r ≡ false → negsuc 1 ≡ interval-count r c .answer
-  counts-sound h s = answers (count-not-sound r c h s)
-
-  pub counts-none : sound r ≡ true → getD r columns-at 0 ≤ c → negsuc 2 ≡ interval-count r c .answer
-  counts-none s h = answers (count-no-column r c s (omega (arith, columns-said r)))
-
-  pub counts-some : Bytes r → sound r ≡ true → c < getD r columns-at 0 → toZ w32 (count-of r c) ≡ interval-count r c .answer
-  counts-some B s h =
-      let d = device-of r in
-      let b = book-of r in
-      let few = few-columns r s in
-      toZ-pos w32 (omega (arith, B (counts-at + c)))
-      ∙ ap (λ (l : List ℕ). pos (count-of l c)) (sound-record r B s)
-      ∙ ap pos (record-count d b c (omega arith))
-      ∙ answers (count-done r c s (omega (arith, columns-said r)))
-
--- ---- the view
-
--- a column that has an interval count
-pub record Counted (r : List ℕ) (c n : ℕ) : Type 0 where
+-- where a column's count and its intervals stand in the record
+pub record Counted (r : List ℕ) (k : ℕ) : Type 0 where
   pub size : length r ≡ record-size
-  pub column : c < max-columns
-  pub few : n ≤ max-intervals
+  pub column : k < max-columns
+  pub few : count-of r k ≤ max-intervals
 
-module _ (r : List ℕ) (c : ℕ) where
-  counted : (n : ℕ) → interval-count r c .answer ≡ pos n → Counted r c n
-  counted n e = go (eqb (length r) record-size) (sound r) (ltb c (columns (device-of r))) refl refl refl
-    where
-      not-refusal : {m : ℕ} → negsuc m ≡ interval-count r c .answer → Counted r c n
-      not-refusal h = let z : _≡_ {A = ℕ} 0 1 = cc in absurd (omega arith)
+module _ (r : List ℕ) (k : ℕ) where
+  pub count-none : sound r ≡ true → getD r columns-at 0 ≤ k → Uncounted r k (negsuc 2)
+  count-none s l = uncounted r k 2 (count-no-column r k s (omega (arith, columns-said r)))
 
-      go : (u v w : Bool) → eqb (length r) record-size ≡ u → sound r ≡ v → ltb c (columns (device-of r)) ≡ w → Counted r c n
-      go false v w a s l = not-refusal (counts-length r c (eqb-false (length r) record-size a))
-      go true false w a s l = not-refusal (counts-sound r c (eqb-true (length r) record-size a) s)
-      go true true false a s l = not-refusal (answers (count-no-column r c s (ltb-false c (columns (device-of r)) l)))
-      go true true true a s l =
-          let w = sound-within r s in
-          let p = ltb-true c (columns (device-of r)) l in
-          let cols = limits-to (device-of r) (book-of r) w .columns in
-          let m : length (intervals (device-of r) (book-of r) c) ≡ n = cc (answers (count-done r c s p)) in
-          record { size = eqb-true (length r) record-size a; column = omega arith; few = omega (arith, few-intervals (device-of r) (book-of r) w c) }
+  pub count-some : sound r ≡ true → k < getD r columns-at 0 → (sound r ≡ true) × (k < columns (device-of r))
+  count-some s l = (s, omega (arith, columns-said r))
 
-  module _ (z : ℤ) (e : z ≡ interval-count r c .answer) where
-    pub view-empty : z ≡ negsuc (mag z) → [] ≡ view r c
-    unfolding view view-of
-    view-empty h = rw (← e, h)
+  module _ (x : Check) (h : ChecksColumn r k x) where
+    pub count-refused : {z : ℤ} → x ≡ Refuse z → Uncounted r k z
+    count-refused e = rw e at h
 
-    pub view-counted : (n : ℕ) → z ≡ pos n → Counted r c n
-    view-counted n h = counted n (sym e ∙ h)
+    module _ (e : x ≡ Pass) where
+      pub counted : Counted r k
+      counted =
+          let (s, l) = rw e at h in
+          let c = clauses-to r s in
+          let cols = limits-to (device-of r) (book-of r) (c .limits) .columns in
+          record { size = c .size; column = omega arith; few = c .few-intervals k (omega arith) }
 
-    pub view-part : (n : ℕ) → z ≡ pos n → take (column-at c + interval-size * n - column-at c) (drop (column-at c) r) ≡ view r c
-    unfolding view view-of part
-    view-part n h = let k : column-at c + interval-size * n - column-at c ≡ interval-size * n = omega arith in rw (← e, h, k)
+      module _ (B : Bytes r) where
+        count-said : interval-count r k .answer ≡ pos (count-of r k)
+        count-said =
+            let (s, l) = rw e at h in
+            let q = counted .column in
+            sym (answers (count-done r k s l)) ∙ ap pos (sym (record-count (device-of r) (book-of r) k q)) ∙ ap (λ (v : List ℕ). pos (count-of v k)) (sym (sound-record r B s))
+
+        pub count-done-at : toZ w32 (count-of r k) ≡ interval-count r k .answer
+        count-done-at = toZ-pos w32 {n = count-of r k} (omega (arith, B (counts-at + k))) ∙ sym count-said
+
+        pub view-part : take (column-at k + interval-size * count-of r k - column-at k) (drop (column-at k) r) ≡ view r k
+        unfolding view view-of part
+        view-part = let a : column-at k + interval-size * count-of r k - column-at k ≡ interval-size * count-of r k = omega arith in rw (count-said, a)

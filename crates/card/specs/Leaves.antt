@@ -1,17 +1,18 @@
 -- What the exported functions promise: their answers and every byte that they were lent, by document 01's call on that byte string. Assumes nothing.
-use Prim.Native.Nat.{ℕ}
+use Prim.Native.Nat.{ℕ, _<_}
 use mathlib.Core.Path.{_≡_}
 use mathlib.Core.Bool.{true, false}
-use mathlib.Core.List.{List}
+use mathlib.Core.List.{List, []}
 use lib.Dec.{leb}
 use lib.IntN.{ℤ}
 use lib.ListN.{length}
 use Rattle.model.specs.Limits.{max-running}
+use Rattle.model.specs.Columns.{columns}
 use Rattle.model.specs.Book.{fits-at}
 use Rattle.model.specs.Record.{device-of, book-of}
-use Rattle.model.specs.Sound.{number-ok}
+use Rattle.model.specs.Sound.{sound, number-ok}
 use Rattle.model.specs.Calls.{Call, list, choose, place, release, Outcome, lent, runs-in}
-use Rattle.model.specs.OnRecord.{on-record}
+use Rattle.model.specs.OnRecord.{on-record, interval-count, view}
 use Rattle.listing.specs.Columns.{Given}
 use Rattle.card.specs.declared.Check.{Check}
 use Rattle.card.specs.declared.Check.the-variants.{Pass, Refuse}
@@ -31,6 +32,15 @@ pub record Writes (o : Outcome (List ℕ)) (answer : ℤ) (output : List ℕ) : 
 -- the call c on the record r answers z and changes nothing
 abbrev pub Refused : List ℕ → ℤ → Call → Type 0
 Refused r z c = on-record r c ≡ record { answer = z; output = lent c; state = r }
+
+-- column k has no interval count and no view: z is answered for it
+abbrev pub Uncounted : List ℕ → ℕ → ℤ → Type 0
+Uncounted r k z = (z ≡ interval-count r k .answer) × ([] ≡ view r k)
+
+-- a refusal of the record is that of every call on it
+abbrev pub ChecksRecord : List ℕ → Check → Type 0
+ChecksRecord r Pass = sound r ≡ true
+ChecksRecord r (Refuse z) = ((c : Call) → Refused r z c) × ((k : ℕ) → Uncounted r k z)
 
 -- the call has the task t
 abbrev pub HasTask : List ℕ → Call → Type 0
@@ -55,3 +65,11 @@ pub record Placing (r t : List ℕ) (n p : ℕ) (y : ℤ) : Type 0 where
 abbrev pub ChecksPlace : List ℕ → List ℕ → ℕ → ℕ → ℤ → Check → Type 0
 ChecksPlace r t n p y Pass = Placing r t n p y
 ChecksPlace r t n p y (Refuse z) = Refused r z (place t n p y)
+
+abbrev pub ChecksRelease : List ℕ → ℕ → Check → Type 0
+ChecksRelease r n Pass = (sound r ≡ true) × (runs-in (book-of r) n ≡ true)
+ChecksRelease r n (Refuse z) = Refused r z (release n)
+
+abbrev pub ChecksColumn : List ℕ → ℕ → Check → Type 0
+ChecksColumn r k Pass = (sound r ≡ true) × (k < columns (device-of r))
+ChecksColumn r k (Refuse z) = Uncounted r k z

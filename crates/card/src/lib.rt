@@ -6,7 +6,6 @@ use listing::Listed;
 use record::entries::Found;
 ghost use mathlib.Core.Path.{_≡_};
 ghost use mathlib.Core.Bool.{true};
-ghost use Prim.Native.Nat.{_<_};
 ghost use lib.Dec.{leb};
 ghost use lib.ListN.{length};
 ghost use Rattle.model.specs.Limits.{max-running};
@@ -16,7 +15,7 @@ ghost use Rattle.model.specs.Sound.{sound, number-ok};
 ghost use Rattle.model.specs.Calls.{list, choose, place, release, runs-in};
 ghost use Rattle.model.specs.OnRecord.{on-record, new, interval-count, view};
 ghost use Rattle.listing.specs.Columns.{Given};
-ghost use Rattle.card.specs.Leaves.{Changes, Writes, ChecksTask, ChecksPlace};
+ghost use Rattle.card.specs.Leaves.{Changes, Writes, ChecksRecord, ChecksTask, ChecksPlace, ChecksRelease, ChecksColumn};
 
 // Document 01's table of refusals.
 pub const WRONG_LENGTH: i32 = -1;
@@ -24,6 +23,8 @@ pub const WRONG_LENGTH: i32 = -1;
 pub const NOT_SOUND: i32 = -2;
 
 pub const BAD_DEVICE: i32 = -3;
+
+pub const NO_COLUMN: i32 = -3;
 
 pub const BAD_TASK_LENGTH: i32 = -4;
 
@@ -41,15 +42,15 @@ pub const MISFIT: i32 = -10;
 
 pub const NOT_RUNNING: i32 = -11;
 
-// What a call on a record with a task checks first.
+// What a call's checks answer.
 pub enum Check {
     Pass,
     Refuse(i32),
 }
 
-// The refusals that list, choose and place share: −1, −2, −4 and −5.
-fn check_task(record: &[u8], task: &[u8]) -> Check
-    ensures { λ r. ⌜ ChecksTask (now («record» .entry)) (now (task .entry)) r ⌝ }
+// The refusals of all calls but new: −1 and −2.
+fn check_record(record: &[u8]) -> Check
+    ensures { λ r. ⌜ ChecksRecord (now («record» .entry)) r ⌝ }
 {
     if record.len() != model::RECORD_SIZE {
         return Check::Refuse(WRONG_LENGTH);
@@ -57,6 +58,17 @@ fn check_task(record: &[u8], task: &[u8]) -> Check
     if !record::sound::sound(record) {
         return Check::Refuse(NOT_SOUND);
     }
+    Check::Pass
+}
+
+// The refusals that list, choose and place share: −1, −2, −4 and −5.
+fn check_task(record: &[u8], task: &[u8]) -> Check
+    ensures { λ r. ⌜ ChecksTask (now («record» .entry)) (now (task .entry)) r ⌝ }
+{
+    let check = check_record(record);
+    let Check::Pass = check else {
+        return check;
+    };
     if !task::sized(task) {
         return Check::Refuse(BAD_TASK_LENGTH);
     }
@@ -164,22 +176,32 @@ pub extern "C" fn card_place(
     }
 }
 
+// All refusals of release.
+fn check_release(record: &[u8], number: u32) -> Check
+    ensures { λ r. ⌜ ChecksRelease (now («record» .entry)) number r ⌝ }
+{
+    let check = check_record(record);
+    let Check::Pass = check else {
+        return check;
+    };
+    if !runs(record, number) {
+        return Check::Refuse(NOT_RUNNING);
+    }
+    Check::Pass
+}
+
 // Frees the cells of a running task and removes its entry.
 #[no_mangle]
 pub extern "C" fn card_release(record: &mut [u8], number: u32) -> i32
     ensures { λ r. ⌜ Changes (on-record (now («record» .entry)) (release number)) r (now («record» .exit)) ⌝ }
 {
-    if record.len() != model::RECORD_SIZE {
-        return WRONG_LENGTH;
+    match check_release(record, number) {
+        Check::Refuse(answer) => answer,
+        Check::Pass => {
+            record::leave::leave(record, number);
+            0
+        }
     }
-    if !record::sound::sound(record) {
-        return NOT_SOUND;
-    }
-    if !runs(record, number) {
-        return NOT_RUNNING;
-    }
-    record::leave::leave(record, number);
-    0
 }
 
 // The listing of a well-formed task on a sound record.
@@ -229,32 +251,40 @@ pub extern "C" fn card_choose(record: &[u8], task: &[u8]) -> i32
     }
 }
 
+// All refusals of the interval count.
+fn check_column(record: &[u8], column: u32) -> Check
+    ensures { λ r. ⌜ ChecksColumn (now («record» .entry)) column r ⌝ }
+{
+    let check = check_record(record);
+    let Check::Pass = check else {
+        return check;
+    };
+    if record[model::COLUMNS_AT] as u32 <= column {
+        return Check::Refuse(NO_COLUMN);
+    }
+    Check::Pass
+}
+
 // The number of free intervals of a column.
 #[no_mangle]
 pub extern "C" fn card_interval_count(record: &[u8], column: u32) -> i32
     ensures { λ r. ⌜ r ≡ interval-count (now («record» .entry)) column .answer ⌝ }
 {
-    if record.len() != model::RECORD_SIZE {
-        return WRONG_LENGTH;
+    match check_column(record, column) {
+        Check::Refuse(answer) => answer,
+        Check::Pass => record[model::COUNTS_AT + column as usize] as i32,
     }
-    if !record::sound::sound(record) {
-        return NOT_SOUND;
-    }
-    if record[model::COLUMNS_AT] as u32 <= column {
-        return BAD_DEVICE;
-    }
-    record[model::COUNTS_AT + column as usize] as i32
 }
 
 // A column's free intervals, four bytes each, as a part of the record; empty where the interval count is a refusal.
 pub fn intervals(record: &[u8], column: u32) -> &[u8]
     ensures { λ r. ⌜ now r ≡ view (now («record» .entry)) column ⌝ }
 {
-    let count = card_interval_count(record, column);
-    if count < 0 {
+    let Check::Pass = check_column(record, column) else {
         return &record[0..0];
-    }
-    let a = model::INTERVALS_AT + model::COLUMN_SIZE * column as usize;
-    let e = a + model::INTERVAL_SIZE * count as usize;
+    };
+    let c = column as usize;
+    let a = model::INTERVALS_AT + model::COLUMN_SIZE * c;
+    let e = a + model::INTERVAL_SIZE * record[model::COUNTS_AT + c] as usize;
     &record[a..e]
 }

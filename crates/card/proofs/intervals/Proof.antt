@@ -1,14 +1,18 @@
 -- `intervals`: empty, or the part of the column. Assumes nothing.
-use borrow.Author.Needs.{needs, sfits-of}
+use borrow.Author.Needs.{needs}
 use native.Mathlib.Omega.{arith}
-use mir.Syntax.{w32}
-use Rattle.signed.proofs.Signed.{negative, natural, unsigned}
-use Rattle.card.specs.Laws.{view-empty, view-counted, view-part}
+use Rattle.card.specs.Laws.{count-refused, counted, view-part}
 use Rattle.card.proofs.intervals.Statement.{statement}
 use Rattle.card.proofs.intervals.Tie as tie
 
-card-interval-count-requires : tie.Need-card-interval-count-requires
-card-interval-count-requires c κs = search needs
+check-column-requires : tie.Need-check-column-requires
+check-column-requires c κs = search needs
+
+enum-told : tie.Need-enum-told
+enum-told c = search needs
+
+enum-told-2 : tie.Need-enum-told-2
+enum-told-2 c = search needs
 
 sub-result : tie.Need-sub-result
 sub-result c = search needs
@@ -20,10 +24,7 @@ part-result-end : tie.Need-part-result-end
 part-result-end c = search needs
 
 returns : tie.Need-returns
-returns c =
-    let k = c .before .before in
-    let f = sfits-of {w = w32} {z = k .card-interval-count .result} (k .card-interval-count .ok) in
-    view-empty _ _ _ (k .card-interval-count .ensures) (negative f (c .before .if1 .taken))
+returns c = let e = c .before in count-refused _ _ _ (e .before .before .check-column .ensures) (e .enum-told2 .given .1) .1
 
 mul-a : tie.Need-mul-a
 mul-a c = search needs
@@ -31,25 +32,32 @@ mul-a c = search needs
 add-a : tie.Need-add-a
 add-a c = search needs
 
+add-e : tie.Need-add-e
+add-e c = search needs
+
+shared-slice-read-e : tie.Need-shared-slice-read-e
+shared-slice-read-e c =
+    let e = c .before in
+    let k = e .before .before in
+    omega (arith, counted _ _ _ (k .check-column .ensures) (e .enum-told .given .1))
+
 cast-e : tie.Need-cast-e
 cast-e c =
-    let k = c .before in
-    let f = sfits-of {w = w32} {z = k .card-interval-count .result} (k .card-interval-count .ok) in
-    unsigned f tt (c .if1 .left)
+    let e = c .before in
+    let k = e .before .before in
+    omega (arith, counted _ _ _ (k .check-column .ensures) (e .enum-told .given .1))
 
 mul-e : tie.Need-mul-e
 mul-e c =
-    let k = c .before in
-    let f = sfits-of {w = w32} {z = k .card-interval-count .result} (k .card-interval-count .ok) in
-    let x = view-counted _ _ _ (k .card-interval-count .ensures) _ (natural f (c .if1 .left)) in
-    omega arith
+    let e = c .before in
+    let k = e .before .before in
+    omega (arith, counted _ _ _ (k .check-column .ensures) (e .enum-told .given .1))
 
-add-e : tie.Need-add-e
-add-e c =
-    let k = c .before in
-    let f = sfits-of {w = w32} {z = k .card-interval-count .result} (k .card-interval-count .ok) in
-    let x = view-counted _ _ _ (k .card-interval-count .ensures) _ (natural f (c .if1 .left)) in
-    omega arith
+add-e-2 : tie.Need-add-e-2
+add-e-2 c =
+    let e = c .before in
+    let k = e .before .before in
+    omega (arith, counted _ _ _ (k .check-column .ensures) (e .enum-told .given .1))
 
 sub-result-2 : tie.Need-sub-result-2
 sub-result-2 c = search needs
@@ -59,31 +67,34 @@ part-result-start-2 c = search needs
 
 part-result-end-2 : tie.Need-part-result-end-2
 part-result-end-2 c =
-    let k = c .before in
-    let f = sfits-of {w = w32} {z = k .card-interval-count .result} (k .card-interval-count .ok) in
-    let x = view-counted _ _ _ (k .card-interval-count .ensures) _ (natural f (c .if1 .left)) in
-    omega arith
+    let e = c .before in
+    let k = e .before .before in
+    omega (arith, counted _ _ _ (k .check-column .ensures) (e .enum-told .given .1))
 
 returns-2 : tie.Need-returns-2
 returns-2 c =
-    let k = c .before .before in
-    let f = sfits-of {w = w32} {z = k .card-interval-count .result} (k .card-interval-count .ok) in
-    view-part _ _ _ (k .card-interval-count .ensures) _ (natural f (c .before .if1 .left))
+    let e = c .before .before in
+    let k = e .before .before in
+    view-part _ _ _ (k .check-column .ensures) (e .enum-told .given .1) (λ i. omega (arith, k .before .shared-slice-known .given i))
 
 pub intervals-spec : {M : Type 1} → statement M
 intervals-spec =
     tie.close
     (tie.spec
-    card-interval-count-requires
+    check-column-requires
+    enum-told
+    enum-told-2
     sub-result
     part-result-start
     part-result-end
     returns
     mul-a
     add-a
+    add-e
+    shared-slice-read-e
     cast-e
     mul-e
-    add-e
+    add-e-2
     sub-result-2
     part-result-start-2
     part-result-end-2
