@@ -1,0 +1,78 @@
+// The input: where its lines end, and its first three lines.
+use crate::MALFORMED;
+use line::device::Rows;
+
+// What the first three lines lead to: where the fourth starts, or the line that ends the program and its refusal.
+pub enum Start {
+    Ready(usize),
+    Fault { line: u32, answer: i32 },
+}
+
+// Where the line that starts at `at` ends: its newline, or the end of the input.
+pub fn line_end(input: &[u8], at: usize) -> usize {
+    let mut i = at;
+    while i < input.len() {
+        if input[i] == b'\n' {
+            return i;
+        }
+        i += 1;
+    }
+    i
+}
+
+// The card of the second line: what new answers, or that the line is malformed.
+pub fn new_card(line: &[u8], card: &mut [u8]) -> i32 {
+    let mut kinds = [0u8; 80];
+    let Rows::Device { rows, count } = line::device::rows_line(line, &mut kinds) else {
+        return MALFORMED;
+    };
+    card::card_new(card, rows, &kinds[..count])
+}
+
+// A malformed or missing line.
+fn malformed(line: u32) -> Start {
+    Start::Fault {
+        line: line,
+        answer: MALFORMED,
+    }
+}
+
+// The third line, which starts at `at`.
+fn third(input: &[u8], at: usize) -> Start {
+    if input.len() <= at {
+        return malformed(3);
+    }
+    let end = line_end(input, at);
+    if !line::device::is_second_names(&input[at..end]) {
+        return malformed(3);
+    }
+    Start::Ready(end + 1)
+}
+
+// The second line, which starts at `at`, and the third.
+fn second(input: &[u8], at: usize, card: &mut [u8]) -> Start {
+    if input.len() <= at {
+        return malformed(2);
+    }
+    let end = line_end(input, at);
+    let answer = new_card(&input[at..end], card);
+    if answer < 0 {
+        return Start::Fault {
+            line: 2,
+            answer: answer,
+        };
+    }
+    third(input, end + 1)
+}
+
+// The first three lines. The card is that of the second line.
+pub fn start(input: &[u8], card: &mut [u8]) -> Start {
+    if input.len() == 0 {
+        return malformed(1);
+    }
+    let end = line_end(input, 0);
+    if !line::device::is_first_names(&input[0..end]) {
+        return malformed(1);
+    }
+    second(input, end + 1, card)
+}
