@@ -1,15 +1,25 @@
 // The input: where its lines end, and its first three lines.
 use crate::MALFORMED;
 use line::device::Rows;
+ghost use mathlib.Core.Path.{_≡_};
+ghost use Prim.Native.Nat.{_<_, _≤_};
+ghost use lib.ListN.{length, drop};
+ghost use Rattle.model.specs.Limits.{record-size};
+ghost use Rattle.model.specs.Sheet.{device-line};
+ghost use Rattle.model.specs.Program.{says, malformed, first, second, third, lines};
+ghost use Rattle.desk.specs.Input.{Ends, Opens, Begins};
 
 // What the first three lines lead to: where the fourth starts, or the line that ends the program and its refusal.
-pub enum Start {
+pub enum Begun {
     Ready(usize),
     Fault { line: u32, answer: i32 },
 }
 
 // Where the line that starts at `at` ends: its newline, or the end of the input.
-pub fn line_end(input: &[u8], at: usize) -> usize {
+pub fn line_end(input: &[u8], at: usize) -> usize
+    requires { ⌜ at < length (now input) ⌝ }
+    ensures { λ r. ⌜ Ends (now (input .entry)) at r ⌝ }
+{
     let mut i = at;
     while i < input.len() {
         if input[i] == b'\n' {
@@ -21,7 +31,9 @@ pub fn line_end(input: &[u8], at: usize) -> usize {
 }
 
 // The card of the second line: what new answers, or that the line is malformed.
-pub fn new_card(line: &[u8], card: &mut [u8]) -> i32 {
+pub fn new_card(line: &[u8], card: &mut [u8]) -> i32
+    ensures { λ r. ⌜ Opens (device-line (now (line .entry))) (now (card .entry)) r (now (card .exit)) ⌝ }
+{
     let mut kinds = [0u8; 80];
     let Rows::Device { rows, count } = line::device::rows_line(line, &mut kinds) else {
         return MALFORMED;
@@ -30,15 +42,15 @@ pub fn new_card(line: &[u8], card: &mut [u8]) -> i32 {
 }
 
 // A malformed or missing line.
-fn malformed(line: u32) -> Start {
-    Start::Fault {
+fn malformed(line: u32) -> Begun {
+    Begun::Fault {
         line: line,
         answer: MALFORMED,
     }
 }
 
 // The third line, which starts at `at`.
-fn third(input: &[u8], at: usize) -> Start {
+fn third(input: &[u8], at: usize) -> Begun {
     if input.len() <= at {
         return malformed(3);
     }
@@ -46,18 +58,18 @@ fn third(input: &[u8], at: usize) -> Start {
     if !line::device::is_second_names(&input[at..end]) {
         return malformed(3);
     }
-    Start::Ready(end + 1)
+    Begun::Ready(end + 1)
 }
 
 // The second line, which starts at `at`, and the third.
-fn second(input: &[u8], at: usize, card: &mut [u8]) -> Start {
+fn second(input: &[u8], at: usize, card: &mut [u8]) -> Begun {
     if input.len() <= at {
         return malformed(2);
     }
     let end = line_end(input, at);
     let answer = new_card(&input[at..end], card);
     if answer < 0 {
-        return Start::Fault {
+        return Begun::Fault {
             line: 2,
             answer: answer,
         };
@@ -66,7 +78,7 @@ fn second(input: &[u8], at: usize, card: &mut [u8]) -> Start {
 }
 
 // The first three lines. The card is that of the second line.
-pub fn start(input: &[u8], card: &mut [u8]) -> Start {
+pub fn begin(input: &[u8], card: &mut [u8]) -> Begun {
     if input.len() == 0 {
         return malformed(1);
     }

@@ -1,4 +1,8 @@
 // A line from the fourth on.
+ghost use lib.ListN.{take};
+ghost use Rattle.model.specs.Program.{on-call, on-line};
+ghost use Rattle.line.specs.Calls.{call-said};
+ghost use Rattle.desk.specs.Desk.{desk-of, Ready, Leaves};
 use crate::MALFORMED;
 use crate::calls;
 use crate::blocks;
@@ -16,29 +20,44 @@ fn on_call(
     call: Call,
     listing: &mut [u8],
     out: &mut [u8],
-) -> Step {
+) -> Step
+    requires { ⌜ Ready (now card) (now draft) used (now listing) (now out) ⌝ }
+    ensures { λ r. ⌜ Leaves (on-call number (desk-of (now (card .entry)) (take used (now (draft .entry)))) (call-said call)) (now (card .exit)) (now (draft .exit)) (r .used) (now (out .exit)) (r .printed) ⌝ }
+{
     match call {
         Call::Block(block) => blocks::add_block(draft, used, number, block, out),
         Call::Clear => Step {
             used: 0,
             printed: 0,
         },
-        Call::List => Step {
-            used: used,
-            printed: ranges::list(card, &draft[..used], number, listing, out),
-        },
-        Call::Choose => Step {
-            used: used,
-            printed: calls::choose(card, &draft[..used], number, out),
-        },
-        Call::Place { task, column, bottom } => Step {
-            used: used,
-            printed: calls::place(card, &draft[..used], number, task, column, bottom, out),
-        },
-        Call::Release { task } => Step {
-            used: used,
-            printed: calls::release(card, number, task, out),
-        },
+        Call::List => {
+            let printed = ranges::list(card, &draft[..used], number, listing, out);
+            Step {
+                used: used,
+                printed: printed,
+            }
+        }
+        Call::Choose => {
+            let printed = calls::choose(card, &draft[..used], number, out);
+            Step {
+                used: used,
+                printed: printed,
+            }
+        }
+        Call::Place { task, column, bottom } => {
+            let printed = calls::place(card, &draft[..used], number, task, column, bottom, out);
+            Step {
+                used: used,
+                printed: printed,
+            }
+        }
+        Call::Release { task } => {
+            let printed = calls::release(card, number, task, out);
+            Step {
+                used: used,
+                printed: printed,
+            }
+        }
     }
 }
 
@@ -51,7 +70,10 @@ pub fn on_line(
     line: &[u8],
     listing: &mut [u8],
     out: &mut [u8],
-) -> Step {
+) -> Step
+    requires { ⌜ Ready (now card) (now draft) used (now listing) (now out) ⌝ }
+    ensures { λ r. ⌜ Leaves (on-line number (desk-of (now (card .entry)) (take used (now (draft .entry)))) (now (line .entry))) (now (card .exit)) (now (draft .exit)) (r .used) (now (out .exit)) (r .printed) ⌝ }
+{
     let Line::Does(call) = line::call::read(line) else {
         let printed = calls::say(out, number, MALFORMED);
         return Step {

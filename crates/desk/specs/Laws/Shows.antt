@@ -1,0 +1,20 @@
+-- What was printed from the first byte on, and a block added to the draft. Assumes nothing.
+use Prim.Native.Nat.{ℕ, _+_, _*_, _/_, _%_, _≤_, _<_}
+use mathlib.Core.Path.{_≡_, refl, sym, _∙_}
+use mathlib.Core.List.{List, [], _++_}
+use native.Mathlib.Omega.{arith}
+use lib.ListN.{length, take, drop, length-append}
+use lib.Seq.{take-at, length-take-le}
+use Rattle.model.specs.Laws.Parts.{splice}
+use Rattle.line.specs.Print.{Printed}
+use Rattle.desk.specs.Desk.{Shows}
+
+pub shows-printed : {before after : List ℕ} {n : ℕ} {text : List ℕ} → Printed before after 0 n text → Shows after n text
+unfolding splice
+shows-printed {before} {after} {n} {text} p =
+    let e : n ≡ length text = omega (arith, p .place) in
+    record { bytes = rw (e, p .bytes) (take-at text _ (length text) refl); within = rw (e, p .bytes) (omega (arith, length-append text (drop (length text) (drop 0 before)))) }
+
+-- nothing printed
+pub shows-none : (out : List ℕ) → Shows out 0 []
+shows-none out = record { bytes = refl; within = omega arith }
