@@ -3,15 +3,22 @@ use Prim.Native.Nat.{ℕ, suc, _+_, _-_, _≤_, _<_}
 use Prim.Native.Char.{code}
 use mathlib.Core.Path.{_≡_, refl, sym, ap, _∙_}
 use mathlib.Core.Bool.{Bool, true, false, cond}
+use mathlib.Core.Option.{Option, none, some}
 use mathlib.Core.List.{List, [], _∷_}
 use native.Mathlib.Numerals.{add-one}
 use native.Mathlib.Omega.{arith}
 use lib.Dec.{eqb}
-use lib.ListN.{length, getD, take, drop, drop-of-length-le, length-drop}
-use lib.Seq.{drop-cons, drop-drop}
+use lib.IntN.{ℤ, negsuc}
+use lib.ListN.{length, getD, take, drop, drop-of-length-le, length-drop, length-append}
+use lib.Seq.{drop-cons, drop-drop, take-at}
 use borrow.Author.Tests.{eq-eqb, ne-eqb}
 use Rattle.model.specs.Program.{lines, longer}
-use Rattle.desk.specs.Input.{line-of, Ends}
+use Rattle.model.specs.Columns.{Device}
+use Rattle.model.specs.OnRecord.{new}
+use Rattle.line.specs.Device.{rows-of, kinds-left}
+use Rattle.line.specs.declared.device.Rows.the-variants as rows
+use Rattle.card.specs.Leaves.{Changes}
+use Rattle.desk.specs.Input.{line-of, Ends, Opens}
 
 -- ---- the loop that looks for the newline
 
@@ -68,3 +75,22 @@ ends s at end h q e =
       within = q;
       line-is = rw d (rw (drop-drop (suc k) at s, f) at (parted-any (drop at s) (omega (arith, length-drop at s))));
     }
+
+-- ---- the second line
+
+pub said-none : (o : Option Device) → rows-of o ≡ rows.Malformed → o ≡ none
+said-none none e = refl
+said-none (some d) e = let z : _≡_ {A = ℕ} 0 1 = cc in absurd (omega arith)
+
+-- the kinds stand in front of the lent bytes
+pub count-fits : (o : Option Device) {n k : ℕ} {kinds : List ℕ} (lent : List ℕ) → rows-of o ≡ rows.Device n k → kinds ≡ kinds-left o lent → k ≤ length kinds
+count-fits none lent e q = let z : _≡_ {A = ℕ} 0 1 = cc in absurd (omega arith)
+count-fits (some d) {n} {k} lent e q = let m : length (d .kinds) ≡ k = cc in rw q (omega (arith, length-append (d .kinds) (drop (length (d .kinds)) lent)))
+
+pub opens-some : (o : Option Device) {n k : ℕ} {kinds : List ℕ} (lent r : List ℕ) {r′ : List ℕ} {a : ℤ} → rows-of o ≡ rows.Device n k → kinds ≡ kinds-left o lent
+    → Changes (new r n (take k kinds)) a r′ → Opens o r a r′
+opens-some none lent r e q h = let z : _≡_ {A = ℕ} 0 1 = cc in absurd (omega arith)
+opens-some (some d) {n} {k} lent r e q h =
+    let m : k ≡ length (d .kinds) = cc in
+    let l : n ≡ d .rows = cc in
+    rw (l, q, m, take-at (d .kinds) (drop (length (d .kinds)) lent) (length (d .kinds)) refl) at h

@@ -1,31 +1,16 @@
+-- `desk::calls::release` meets its contract: the call's answer, printed. Assumes nothing.
 use borrow.Author.Needs.{needs}
+use mir.Syntax.{w32}
+use Rattle.signed.proofs.Signed.{read}
 use Rattle.desk.proofs.calls.release.Statement.{statement}
 use Rattle.desk.proofs.calls.release.Tie as tie
-use Rattle.desk.proofs.calls.release.Reads as reads
-use Rattle.desk.proofs.calls.release.Lts as lts
-use Rattle.card.proofs.card_release.Reads as card-release-reads
-use Rattle.desk.proofs.calls.say.Reads as say-reads
 
--- src/calls.rt:52:9
-card-release-requires : tie.Need-card-release-requires
-card-release-requires c κs = search needs
-
--- src/calls.rt:53:5
-say-requires : tie.Need-say-requires
-say-requires c κs = search needs
-
--- src/calls.rt:48:1
-same-length : tie.Need-same-length
-same-length c = search needs
-
--- src/calls.rt:48:1
-same-length-2 : tie.Need-same-length-2
-same-length-2 c = search needs
-
--- src/calls.rt:48:1
 returns : tie.Need-returns
-returns c = ?
+returns c =
+    let y = c .before .before in
+    let p = y .before .before .before .before in
+    let e = p .card-release .ensures in
+    record { card-is = e .record-is; printed-is = rw (read w32 (p .card-release .ok), e .answer-is) at (y .say .ensures) }
 
 pub release-spec : {M : Type 1} → statement M
-release-spec =
-    tie.close (tie.spec card-release-requires say-requires same-length same-length-2 returns)
+release-spec = tie.close (tie.spec (λ c κs. search needs) (λ c κs. search needs) (λ c. search needs) (λ c. search needs) returns)

@@ -1,52 +1,39 @@
+-- `desk::input::line_end` meets its contract. The invariant: the line ends where it ends from i on. Assumes nothing.
+use borrow.Author.Needs.{needs}
+use mathlib.Core.Path.{_≡_}
+use Prim.Native.Nat.{_≤_, _+_, _-_}
+use native.Mathlib.Omega.{arith}
+use lib.ListN.{length, drop}
+use Rattle.desk.specs.Input.{line-of}
+use Rattle.desk.specs.Laws.Input.{line-stop, line-step, line-over, ends}
 use Rattle.desk.proofs.input.line_end.Statement.{statement}
 use Rattle.desk.proofs.input.line_end.Tie as tie
-use Rattle.desk.proofs.input.line_end.Reads as reads
-use Rattle.desk.proofs.input.line_end.Lts as lts
 
 abbrev Inv-loop : tie.InvT-loop
-Inv-loop input at i₀ i = ?
+Inv-loop s at i₀ i = (i ≤ length s) × (i + length (line-of (drop i s)) ≡ at + length (line-of (drop at s)))
 
 abbrev μ-loop : tie.MeasureT-loop
-μ-loop input at i₀ i = ?
+μ-loop s at i₀ i = length s - i
 
--- src/input.rt:24:5
-loop-holds : tie.Need-loop-holds Inv-loop μ-loop
-loop-holds c = ?
-
--- src/input.rt:25:12
-shared-slice-read-if1 : tie.Need-shared-slice-read-if1 Inv-loop μ-loop
-shared-slice-read-if1 c = ?
-
--- src/input.rt:26:13
 returns : tie.Need-returns Inv-loop μ-loop
-returns c = ?
+returns c =
+    let t = c .before .before in
+    let s = t .before .before in
+    ends (s .args .input .now) (s .args .at) _ (s .pre) (omega arith)
+    (omega (arith, line-stop (s .args .input .now) (t .before .loop .i) (t .loop-test .taken) (c .if1 .taken)))
 
--- src/input.rt:28:9
-add-i : tie.Need-add-i Inv-loop μ-loop
-add-i c = ?
-
--- src/input.rt:24:5
-loop-less : tie.Need-loop-less Inv-loop μ-loop
-loop-less c = ?
-
--- src/input.rt:24:5
 loop-again : tie.Need-loop-again Inv-loop μ-loop
-loop-again c = ?
+loop-again c =
+    let t = c .before .before in
+    omega (arith, line-step (t .before .before .args .input .now) (t .before .loop .i) (t .loop-test .taken) (c .if1 .left))
 
--- src/input.rt:19:1
 returns-2 : tie.Need-returns-2 Inv-loop μ-loop
-returns-2 c = ?
+returns-2 c =
+    let s = c .before .before in
+    ends (s .args .input .now) (s .args .at) _ (s .pre) (omega arith)
+    (omega (arith, line-over (s .args .input .now) (c .before .loop .i) (c .loop-test .left)))
 
 pub line-end-spec : {M : Type 1} → statement M
 line-end-spec =
     tie.close
-    (tie.spec
-    Inv-loop
-    μ-loop
-    loop-holds
-    shared-slice-read-if1
-    returns
-    add-i
-    loop-less
-    loop-again
-    returns-2)
+    (tie.spec Inv-loop μ-loop (λ c. search needs) (λ c. search needs) returns (λ c. search needs) (λ c. search needs) loop-again returns-2)

@@ -1,53 +1,52 @@
+-- `desk::ranges::print_ranges` meets its contract. The invariant: the lines of the first i ranges are printed. Assumes nothing.
+use borrow.Author.Needs.{needs}
+use mathlib.Core.Path.{_≡_, refl, sym, _∙_}
+use Prim.Native.Nat.{_≤_, _+_, _*_, _-_}
+use native.Mathlib.Omega.{arith}
+use lib.ListN.{length}
+use mir.Syntax.{w32}
+use mir.Val.{toZ, ofZ}
+use mir.Facts.{toZ-ofZ}
+use Rattle.model.specs.Laws.RangeBytes.{ranges-in}
+use Rattle.model.specs.Program.{shows}
+use Rattle.line.specs.Print.{Printed}
+use Rattle.line.specs.Laws.Print.{printed-more}
+use Rattle.desk.specs.Desk.{line-room}
+use Rattle.desk.specs.Laws.Shows.{printed-none, shows-printed}
+use Rattle.desk.specs.Laws.Listing.{shows-more}
 use Rattle.desk.proofs.ranges.print_ranges.Statement.{statement}
 use Rattle.desk.proofs.ranges.print_ranges.Tie as tie
-use Rattle.desk.proofs.ranges.print_ranges.Reads as reads
-use Rattle.desk.proofs.ranges.print_ranges.Lts as lts
-use Rattle.desk.proofs.ranges.print_range.Reads as print-range-reads
 
 abbrev Inv-loop : tie.InvT-loop
-Inv-loop listing count number answer out₀ at₀ i₀ out at i = ?
+Inv-loop listing count number answer out₀ at₀ i₀ out at i =
+    (i ≤ count) × (at ≤ line-room * i) × (length out ≡ length out₀) × Printed out₀ out 0 at (shows number (toZ w32 answer) (ranges-in i listing))
 
 abbrev μ-loop : tie.MeasureT-loop
-μ-loop listing count number answer out₀ at₀ i₀ out at i = ?
+μ-loop listing count number answer out₀ at₀ i₀ out at i = count - i
 
--- src/ranges.rt:23:5
 loop-holds : tie.Need-loop-holds Inv-loop μ-loop
-loop-holds c = ?
+loop-holds c = (omega arith, omega arith, refl, printed-none _ _ _ _)
 
--- src/ranges.rt:24:9
 print-range-requires : tie.Need-print-range-requires Inv-loop μ-loop
-print-range-requires c κs = ?
+print-range-requires c κs = (omega arith, omega arith)
 
--- src/ranges.rt:25:9
-add-i : tie.Need-add-i Inv-loop μ-loop
-add-i c = ?
-
--- src/ranges.rt:23:5
-loop-less : tie.Need-loop-less Inv-loop μ-loop
-loop-less c = ?
-
--- src/ranges.rt:23:5
 loop-again : tie.Need-loop-again Inv-loop μ-loop
-loop-again c = ?
+loop-again c =
+    let p = c .before .before in
+    let l = p .before .before .before in
+    let s = l .before .before .before in
+    let more = printed-more (omega (arith, l .loop .inv .2)) (l .loop .inv .3) (p .print-range .ensures .1) in
+    (omega arith, omega (arith, p .print-range .ensures .0), p .print-range .kept .1 .1 .1 .1 .0 ∙ l .loop .inv .2,
+    rw (shows-more (s .args .number) (toZ w32 (ofZ w32 (s .args .answer))) (l .loop .i) (s .args .listing .now)) at more)
 
--- src/ranges.rt:20:1
-same-length : tie.Need-same-length Inv-loop μ-loop
-same-length c = ?
-
--- src/ranges.rt:20:1
 returns : tie.Need-returns Inv-loop μ-loop
-returns c = ?
+returns c =
+    let l = c .before in
+    let s = l .before .before .before in
+    let e : l .loop .i ≡ s .args .count = omega arith in
+    rw (e, toZ-ofZ (s .fits .answer)) at (shows-printed (l .loop .inv .3))
 
 pub print-ranges-spec : {M : Type 1} → statement M
 print-ranges-spec =
     tie.close
-    (tie.spec
-    Inv-loop
-    μ-loop
-    loop-holds
-    print-range-requires
-    add-i
-    loop-less
-    loop-again
-    same-length
-    returns)
+    (tie.spec Inv-loop μ-loop loop-holds print-range-requires (λ c. search needs) (λ c. search needs) loop-again (λ c. search needs) returns)
