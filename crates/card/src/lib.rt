@@ -1,31 +1,44 @@
 // The calls on one card's record, for the match server: exported with the C calling form, save the view.
 // Each contract equates the answer and every lent byte with document 01's call on that byte string (model/specs/OnRecord.antt), refusals included.
 // `on-record` is also the step of the theorem about whole histories (model/specs/Laws/History.antt).
+use choice::Best;
+use listing::Listed;
 use record::entries::Found;
-
 ghost use mathlib.Core.Path.{_≡_};
-ghost use mathlib.Core.Bool.{Bool, true};
+ghost use mathlib.Core.Bool.{true};
 ghost use Prim.Native.Nat.{_<_};
 ghost use lib.Dec.{leb};
 ghost use lib.ListN.{length};
 ghost use Rattle.model.specs.Limits.{max-running};
-ghost use Rattle.model.specs.Record.{book-of};
+ghost use Rattle.model.specs.Book.{fits-at};
+ghost use Rattle.model.specs.Record.{device-of, book-of};
 ghost use Rattle.model.specs.Sound.{sound, number-ok};
 ghost use Rattle.model.specs.Calls.{list, choose, place, release, runs-in};
 ghost use Rattle.model.specs.OnRecord.{on-record, new, interval-count, view};
-ghost use Rattle.card.specs.Leaves.{Changes, Writes, Passed, ChecksTask};
+ghost use Rattle.listing.specs.Columns.{Given};
+ghost use Rattle.card.specs.Leaves.{Changes, Writes, ChecksTask, ChecksPlace};
 
 // Document 01's table of refusals.
 pub const WRONG_LENGTH: i32 = -1;
+
 pub const NOT_SOUND: i32 = -2;
+
 pub const BAD_DEVICE: i32 = -3;
+
 pub const BAD_TASK_LENGTH: i32 = -4;
+
 pub const MALFORMED_TASK: i32 = -5;
+
 pub const SHORT_OUTPUT: i32 = -6;
+
 pub const BAD_NUMBER: i32 = -7;
+
 pub const CARD_FULL: i32 = -8;
+
 pub const NO_POSITION: i32 = -9;
+
 pub const MISFIT: i32 = -10;
+
 pub const NOT_RUNNING: i32 = -11;
 
 // What a call on a record with a task checks first.
@@ -68,8 +81,7 @@ fn runs(record: &[u8], number: u32) -> bool
     requires { ⌜ sound (now «record») ≡ true ⌝ }
     ensures { λ r. ⌜ r ≡ runs-in (book-of (now («record» .entry))) number ⌝ }
 {
-    let found = record::entries::find(record, number);
-    match found {
+    match record::entries::find(record, number) {
         Found::At(_) => true,
         Found::Nowhere => false,
     }
@@ -98,40 +110,57 @@ pub extern "C" fn card_new(record: &mut [u8], rows: u32, kinds: &[u8]) -> i32
     0
 }
 
-// A placement on a sound record, of a well-formed task.
-fn place_checked(record: &mut [u8], task: &[u8], number: u32, column: u32, bottom: i32) -> i32
-    requires { ⌜ Passed (now «record») (now task) ⌝ }
-    ensures { λ r. ⌜ Changes (on-record (now («record» .entry)) (place (now (task .entry)) number column bottom)) r (now («record» .exit)) ⌝ }
+// Whether a task fits at a column and a bottom, which may lie off the device.
+fn fits_at(record: &[u8], task: &[u8], column: u32, bottom: i32) -> bool
+    requires { ⌜ Given (now «record») (now task) ⌝ }
+    ensures { λ r. ⌜ r ≡ fits-at (device-of (now («record» .entry))) (book-of (now («record» .entry))) (now (task .entry)) column bottom ⌝ }
 {
+    if bottom < 0 {
+        return false;
+    }
+    record::fits::fits(record, task, column, bottom as u32)
+}
+
+// All refusals of place.
+fn check_place(record: &[u8], task: &[u8], number: u32, column: u32, bottom: i32) -> Check
+    ensures { λ r. ⌜ ChecksPlace (now («record» .entry)) (now (task .entry)) number column bottom r ⌝ }
+{
+    let check = check_task(record, task);
+    let Check::Pass = check else {
+        return check;
+    };
     if !number_ok(number) {
-        return BAD_NUMBER;
+        return Check::Refuse(BAD_NUMBER);
     }
     if runs(record, number) {
-        return BAD_NUMBER;
+        return Check::Refuse(BAD_NUMBER);
     }
     if full(record) {
-        return CARD_FULL;
+        return Check::Refuse(CARD_FULL);
     }
-    if bottom < 0 {
-        return MISFIT;
+    if !fits_at(record, task, column, bottom) {
+        return Check::Refuse(MISFIT);
     }
-    let y = bottom as u32;
-    if !record::fits::fits(record, task, column, y) {
-        return MISFIT;
-    }
-    record::enter::enter(record, task, number, column, y);
-    0
+    Check::Pass
 }
 
 // Enters a task as running at a position, and takes its cells.
 #[no_mangle]
-pub extern "C" fn card_place(record: &mut [u8], task: &[u8], number: u32, column: u32, bottom: i32) -> i32
+pub extern "C" fn card_place(
+    record: &mut [u8],
+    task: &[u8],
+    number: u32,
+    column: u32,
+    bottom: i32,
+) -> i32
     ensures { λ r. ⌜ Changes (on-record (now («record» .entry)) (place (now (task .entry)) number column bottom)) r (now («record» .exit)) ⌝ }
 {
-    let check = check_task(record, task);
-    match check {
+    match check_place(record, task, number, column, bottom) {
         Check::Refuse(answer) => answer,
-        Check::Pass => place_checked(record, task, number, column, bottom),
+        Check::Pass => {
+            record::enter::enter(record, task, number, column, bottom as u32);
+            0
+        }
     }
 }
 
@@ -151,6 +180,53 @@ pub extern "C" fn card_release(record: &mut [u8], number: u32) -> i32
     }
     record::leave::leave(record, number);
     0
+}
+
+// The listing of a well-formed task on a sound record.
+fn list_task(record: &[u8], task: &[u8], output: &mut [u8]) -> i32
+    requires { ⌜ Given (now «record») (now task) ⌝ }
+    ensures { λ r. ⌜ Writes (on-record (now («record» .entry)) (list (now (task .entry)) (now (output .entry)))) r (now (output .exit)) ⌝ }
+{
+    if output.len() < model::LIST_ROOM {
+        return SHORT_OUTPUT;
+    }
+    match listing::list(record, task, output) {
+        Listed::Ranges(count) => count as i32,
+        Listed::NoPosition => NO_POSITION,
+    }
+}
+
+// Writes the ranges of the positions at which a task fits.
+#[no_mangle]
+pub extern "C" fn card_list(record: &[u8], task: &[u8], output: &mut [u8]) -> i32
+    ensures { λ r. ⌜ Writes (on-record (now («record» .entry)) (list (now (task .entry)) (now (output .entry)))) r (now (output .exit)) ⌝ }
+{
+    match check_task(record, task) {
+        Check::Refuse(answer) => answer,
+        Check::Pass => list_task(record, task, output),
+    }
+}
+
+// The choice for a well-formed task on a sound record.
+fn choose_task(record: &[u8], task: &[u8]) -> i32
+    requires { ⌜ Given (now «record») (now task) ⌝ }
+    ensures { λ r. ⌜ r ≡ on-record (now («record» .entry)) (choose (now (task .entry))) .answer ⌝ }
+{
+    match choice::best_position(record, task) {
+        Best::Nothing => NO_POSITION,
+        Best::At { column, bottom, .. } => (column * model::COLUMN_WEIGHT + bottom) as i32,
+    }
+}
+
+// The best of the positions at which a task fits, as column × 1,024 + bottom.
+#[no_mangle]
+pub extern "C" fn card_choose(record: &[u8], task: &[u8]) -> i32
+    ensures { λ r. ⌜ r ≡ on-record (now («record» .entry)) (choose (now (task .entry))) .answer ⌝ }
+{
+    match check_task(record, task) {
+        Check::Refuse(answer) => answer,
+        Check::Pass => choose_task(record, task),
+    }
 }
 
 // The number of free intervals of a column.

@@ -11,10 +11,9 @@ use Rattle.runs.specs.Intervals.{Interval, interval}
 use Rattle.runs.specs.declared.Range.{Range}
 use Rattle.model.specs.Limits.{max-rows, max-columns, max-blocks, words}
 use Rattle.model.specs.Columns.{Device, half-rows}
-use Rattle.model.specs.Tasks.{sized, well-formed, step}
+use Rattle.model.specs.Tasks.{step}
 use Rattle.model.specs.Book.{Book, Placed, placed, fits, intervals}
 use Rattle.model.specs.Choice.{home, Judge, judge, Found, nothing, at, climb, chosen}
-use Rattle.model.specs.Sound.{sound}
 use Rattle.model.specs.Calls.{no-position}
 use Rattle.model.specs.Laws.Homes.{bit}
 use Rattle.model.specs.Laws.Raised.{Room}
@@ -22,12 +21,6 @@ use Rattle.choice.specs.declared.Seat.{Seat}
 use Rattle.choice.specs.declared.Score.{Score}
 use Rattle.choice.specs.declared.Best.{Best}
 use Rattle.choice.specs.declared.Best.the-variants.{Nothing, At}
-
--- what is asked of every record and task here
-pub record Asked (r t : List ℕ) : Type 0 where
-  pub sound : sound r ≡ true
-  pub sized : sized t ≡ true
-  pub well-formed : well-formed t ≡ true
 
 -- the bounds of n and s: each block adds two pieces at most, and one interval
 abbrev pub max-pieces : ℕ

@@ -2,12 +2,12 @@
 // Only the lowest and the highest bottom of each stretch in which no block leaves its free interval are scored: between them s stays the same
 // and n is no less (model/specs/Laws/Ends.antt).
 ghost use mathlib.Core.Path.{_≡_};
-ghost use Prim.Native.Nat.{suc, _+_, _≤_, _<_};
+ghost use Prim.Native.Nat.{suc, _≤_, _<_};
 ghost use mathlib.Core.Bool.{true};
 ghost use lib.Dec.{ltb};
 ghost use Rattle.runs.specs.Intervals.{interval, Holds};
 ghost use Rattle.model.specs.Limits.{max-columns, words};
-ghost use Rattle.model.specs.Columns.{columns, half-rows};
+ghost use Rattle.model.specs.Columns.{half-rows};
 ghost use Rattle.model.specs.Tasks.{blocks, step as step-of};
 ghost use Rattle.model.specs.Book.{placed, fits, intervals};
 ghost use Rattle.model.specs.Choice.{holder, judge};
@@ -15,7 +15,8 @@ ghost use Rattle.model.specs.Record.{device-of, book-of};
 ghost use Rattle.model.specs.Sound.{sound};
 ghost use Rattle.model.specs.Laws.Homes.{bit};
 ghost use Rattle.listing.specs.Arrays.{Room};
-ghost use Rattle.choice.specs.Choosing.{Asked, Seated, piece-below, pieces-of, max-pieces, max-stretch, Scored, Small, better-of, Rises, Climbed, FitsRange, ranges-in, RangesAre, Chooses};
+ghost use Rattle.listing.specs.Columns.{Given};
+ghost use Rattle.choice.specs.Choosing.{Seated, piece-below, pieces-of, max-pieces, max-stretch, Scored, Small, better-of, Rises, Climbed, FitsRange, ranges-in, RangesAre, Chooses};
 use column::Held;
 use column::Interval;
 use runs::Range;
@@ -67,7 +68,7 @@ fn home(record: &[u8], c: usize, bottom: u32, top: u32) -> Interval
 
 // Block k of a task at column, bottom, and its home.
 fn seat_at(record: &[u8], task: &[u8], column: u32, bottom: u32, k: usize) -> Seat
-    requires { ⌜ Asked (now «record») (now task) × (fits (device-of (now «record»)) (book-of (now «record»)) (now task) column bottom ≡ true) × (k < blocks (now task)) ⌝ }
+    requires { ⌜ Given (now «record») (now task) × (fits (device-of (now «record»)) (book-of (now «record»)) (now task) column bottom ≡ true) × (k < blocks (now task)) ⌝ }
     ensures { λ r. ⌜ Seated (placed (now (task .entry)) column bottom) (intervals (device-of (now («record» .entry))) (book-of (now («record» .entry)))) k r ⌝ }
 {
     let b = task::block_at(task, k);
@@ -116,7 +117,7 @@ fn pieces_of(before: Seat, seat: Seat) -> u32
 
 // The score of a position at which the task fits.
 pub fn score_at(record: &[u8], task: &[u8], column: u32, bottom: u32) -> Score
-    requires { ⌜ Asked (now «record») (now task) × (fits (device-of (now «record»)) (book-of (now «record»)) (now task) column bottom ≡ true) ⌝ }
+    requires { ⌜ Given (now «record») (now task) × (fits (device-of (now «record»)) (book-of (now «record»)) (now task) column bottom ≡ true) ⌝ }
     ensures { λ r. ⌜ Scored (device-of (now («record» .entry))) (book-of (now («record» .entry))) (now (task .entry)) column bottom r ⌝ }
 {
     let count = task.len() / model::BLOCK_SIZE;
@@ -186,7 +187,7 @@ fn rise(room: u32, step: u32) -> u32
 
 // The better of the best so far and the bottoms of a range.
 fn climb_range(record: &[u8], task: &[u8], column: u32, range: Range, best: Best) -> Best
-    requires { ⌜ Asked (now «record») (now task) × FitsRange (device-of (now «record»)) (book-of (now «record»)) (now task) column range × Small best ⌝ }
+    requires { ⌜ Given (now «record») (now task) × FitsRange (device-of (now «record»)) (book-of (now «record»)) (now task) column range × Small best ⌝ }
     ensures { λ r. ⌜ Climbed (judge (device-of (now («record» .entry))) (book-of (now («record» .entry))) (now (task .entry))) column (range .first) (suc (range .last)) best r ⌝ }
 {
     let mut best = best;
@@ -209,7 +210,7 @@ fn climb_ranges(
     lasts: &[u32],
     best: Best,
 ) -> Best
-    requires { ⌜ Asked (now «record») (now task) × (step ≡ step-of (now task)) × RangesAre (ranges-in (device-of (now «record»)) (book-of (now «record»)) (now task) column) (now firsts) (now lasts) × Small best ⌝ }
+    requires { ⌜ Given (now «record») (now task) × (step ≡ step-of (now task)) × RangesAre (ranges-in (device-of (now «record»)) (book-of (now «record»)) (now task) column) (now firsts) (now lasts) × Small best ⌝ }
     ensures { λ r. ⌜ Climbed (judge (device-of (now («record» .entry))) (book-of (now («record» .entry))) (now (task .entry))) column 0 (half-rows (device-of (now («record» .entry)))) best r ⌝ }
 {
     let mut best = best;
@@ -236,7 +237,7 @@ fn climb_column(
     lasts: &mut [u32],
     best: Best,
 ) -> Best
-    requires { ⌜ Asked (now «record») (now task) × (column < max-columns) × (step ≡ step-of (now task)) × Room (now firsts) (now lasts) × Small best ⌝ }
+    requires { ⌜ Given (now «record») (now task) × (column < max-columns) × (step ≡ step-of (now task)) × Room (now firsts) (now lasts) × Small best ⌝ }
     ensures { λ r. ⌜ Climbed (judge (device-of (now («record» .entry))) (book-of (now («record» .entry))) (now (task .entry))) column 0 (half-rows (device-of (now («record» .entry)))) best r ⌝ }
 {
     let count = listing::column_ranges(record, task, column as usize, firsts, lasts);
@@ -253,7 +254,7 @@ fn climb_column(
 
 // The best position of a task on all columns, or nothing where no position fits.
 pub fn best_position(record: &[u8], task: &[u8]) -> Best
-    requires { ⌜ Asked (now «record») (now task) ⌝ }
+    requires { ⌜ Given (now «record») (now task) ⌝ }
     ensures { λ r. ⌜ Chooses (device-of (now («record» .entry))) (book-of (now («record» .entry))) (now (task .entry)) r ⌝ }
 {
     let step = task::step(task);

@@ -10,11 +10,11 @@ use Rattle.runs.specs.Intervals.{Interval, Multiple}
 use Rattle.runs.specs.declared.Range.{Range}
 use Rattle.model.specs.Limits.{reach, max-rows}
 use Rattle.model.specs.Columns.{Device, height}
-use Rattle.model.specs.Tasks.{Block, block}
+use Rattle.model.specs.Tasks.{block}
 use Rattle.model.specs.Book.{Book, block-fits}
 
 abbrev pub lift : ℕ
-lift = 512
+lift = 2 * reach
 
 -- a run of lifted bottoms, as it is
 abbrev pub lowered : Run → Run
@@ -47,7 +47,7 @@ pub record Common (t : List ℕ) (m s : ℕ) : Type 0 where
   pub least : (x : ℕ) → ((i : ℕ) → i < m → Multiple (height (block t i .kind)) x) → Multiple s x
 
 -- L lists, in steps of s, the lifted bottoms at which the first k blocks of the task stand free
-pub record Listed (d : Device) (b : Book) (t : List ℕ) (p k s : ℕ) (L : List Run) : Type 0 where
+pub record Standing (d : Device) (b : Book) (t : List ℕ) (p k s : ℕ) (L : List Run) : Type 0 where
   pub common : Common t (max 1 k) s
   pub canon : Canon s L
   pub named-to : (y : ℕ) → Mem s y L → Stand d b t p k y

@@ -11,7 +11,7 @@ use Rattle.model.specs.Tasks.{blocks, block, step, sized, well-formed}
 use Rattle.model.specs.Book.{fits}
 use Rattle.model.specs.Record.{device-of, book-of}
 use Rattle.model.specs.Sound.{sound}
-use Rattle.listing.specs.Bottoms.{lift, Listed}
+use Rattle.listing.specs.Bottoms.{lift, Standing}
 use Rattle.listing.specs.Arrays.{max-runs, read, Room}
 
 -- a sound record, and a well-formed task
@@ -54,7 +54,7 @@ pub record Started (t F T : List ℕ) (n s : ℕ) : Type 0 where
 -- the first n runs of the arrays, in steps of s, are the lifted bottoms of the first k blocks of the task in column p
 pub record LiftedTo (r t : List ℕ) (p k n s : ℕ) (F T : List ℕ) : Type 0 where
   pub few : n ≤ max-runs
-  pub listed : Listed (device-of r) (book-of r) t p k s (read n F T)
+  pub listed : Standing (device-of r) (book-of r) t p k s (read n F T)
 
 -- there is a next block
 pub record Nextable (r t : List ℕ) (p k n s : ℕ) (F T : List ℕ) : Type 0 where

@@ -4,3 +4,4 @@ pub mod Blocks
 pub mod Arrays
 pub mod Walk
 pub mod Column
+pub mod Output

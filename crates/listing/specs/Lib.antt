@@ -2,4 +2,5 @@
 pub mod Bottoms
 pub mod Arrays
 pub mod Columns
+pub mod Output
 pub mod Laws

@@ -8,25 +8,39 @@ use task::Block;
 ghost use mathlib.Core.Path.{_≡_};
 ghost use mathlib.Core.Bool.{true};
 ghost use mathlib.Core.List.{map};
-ghost use Prim.Native.Nat.{ℕ, _+_, _-_, _*_, _≤_, _<_};
+ghost use Prim.Native.Nat.{_+_, _-_, _*_, _≤_, _<_};
 ghost use lib.ListN.{length, getD};
 ghost use Rattle.runs.specs.Runs.{run, push};
 ghost use Rattle.runs.specs.Meet.{Step, Lcm};
 ghost use Rattle.task.specs.Blocks.{seen};
 ghost use Rattle.words.specs.Words.{Widened};
-ghost use Rattle.model.specs.Limits.{reach, max-rows, max-columns, max-intervals, record-size};
+ghost use Rattle.model.specs.Limits.{reach, max-rows, max-columns, max-intervals, record-size, range-size, list-room};
 ghost use Rattle.model.specs.Columns.{height};
 ghost use Rattle.model.specs.Kinds.{number-of};
 ghost use Rattle.model.specs.Sound.{sound};
-ghost use Rattle.listing.specs.Bottoms.{lift, lowered, range-in};
+ghost use Rattle.model.specs.Listing.{range-of};
+ghost use Rattle.model.specs.Record.{device-of, book-of};
+ghost use Rattle.model.specs.Calls.{range-bytes};
+ghost use Rattle.model.specs.Laws.Parts.{splice};
+ghost use Rattle.listing.specs.Bottoms.{lowered, range-in};
 ghost use Rattle.listing.specs.Arrays.{max-runs, read, Room, Lowerable, Pushable, Puttable, Joined, IntervalAt, Meetable, Met as MetBlock};
 ghost use Rattle.listing.specs.Columns.{Given, OfKind, OnAll, Liftable, Startable, Started, LiftedTo, Nextable, Lifted, Ranged};
+ghost use Rattle.listing.specs.Output.{Writable, AllWritable, column-bytes, Answers};
+
+// What a listing answers: how many ranges it wrote, or that no position fits.
+pub enum Listed {
+    Ranges(u32),
+    NoPosition,
+}
 
 // Bottoms are kept this much above their value, so that a block far above the first gives no negative number.
-const LIFT: u32 = 512;
+const LIFT: u32 = 2 * model::REACH;
+
+// A column has at most this many runs.
+const MAX_RUNS: usize = model::MAX_INTERVALS;
 
 // How many runs a list has, and their step.
-struct List {
+struct Runs {
     count: usize,
     step: u32,
 }
@@ -151,7 +165,7 @@ fn meet_block(
     b: Block,
     lows: &[u32],
     highs: &[u32],
-    list: List,
+    list: Runs,
     firsts: &mut [u32],
     lasts: &mut [u32],
 ) -> usize
@@ -214,14 +228,14 @@ fn on_columns(record: &[u8], task: &[u8], p: usize) -> bool
 }
 
 // All half rows, lifted, on the grid of the first block.
-fn start_list(task: &[u8], firsts: &mut [u32], lasts: &mut [u32]) -> List
+fn start_list(task: &[u8], firsts: &mut [u32], lasts: &mut [u32]) -> Runs
     requires { ⌜ Startable (now task) (now firsts) (now lasts) ⌝ }
     ensures { λ r. ⌜ Started (now (task .entry)) (now (firsts .exit)) (now (lasts .exit)) (r .count) (r .step) ⌝ }
 {
     let step = task::block_at(task, 0).height();
     firsts[0] = LIFT;
     lasts[0] = LIFT + (2 * model::MAX_ROWS - 1) / step * step;
-    List {
+    Runs {
         count: 1,
         step: step,
     }
@@ -233,12 +247,12 @@ fn meet_next(
     task: &[u8],
     p: usize,
     k: usize,
-    list: List,
+    list: Runs,
     firsts: &mut [u32],
     lasts: &mut [u32],
     lows: &mut [u32],
     highs: &mut [u32],
-) -> List
+) -> Runs
     requires { ⌜ Nextable (now «record») (now task) p k (list .count) (list .step) (now firsts) (now lasts) × Room (now lows) (now highs) ⌝ }
     ensures { λ r. ⌜ LiftedTo (now («record» .entry)) (now (task .entry)) p (k + 1) (r .count) (r .step) (now (firsts .exit)) (now (lasts .exit)) ⌝ }
 {
@@ -254,7 +268,7 @@ fn meet_next(
         firsts,
         lasts,
     );
-    List {
+    Runs {
         count: n,
         step: common_step(list.step, b.height()),
     }
@@ -271,8 +285,8 @@ fn lifted_bottoms(
     requires { ⌜ Liftable (now «record») (now task) p × Room (now firsts) (now lasts) ⌝ }
     ensures { λ n. ⌜ Lifted (now («record» .entry)) (now (task .entry)) p (now (firsts .exit)) (now (lasts .exit)) n ⌝ }
 {
-    let mut lows = [0u32; 64];
-    let mut highs = [0u32; 64];
+    let mut lows = [0u32; MAX_RUNS];
+    let mut highs = [0u32; MAX_RUNS];
     let count = task.len() / model::BLOCK_SIZE;
     let mut list = start_list(task, firsts, lasts);
     let mut k: usize = 0;
@@ -310,4 +324,60 @@ pub fn column_ranges(
     let n = lifted_bottoms(record, task, p, firsts, lasts);
     lower(firsts, lasts, n);
     n
+}
+
+// Writes a range as number n of the output.
+fn write_range(output: &mut [u8], n: usize, column: usize, step: u32, first: u32, last: u32)
+    requires { ⌜ Writable (length (now output)) n column step first last ⌝ }
+    ensures { λ _. ⌜ now (output .exit) ≡ splice (now (output .entry)) (range-size * n) range-size (range-bytes (range-of column step (run first last))) ⌝ }
+{
+    let at = model::RANGE_SIZE * n;
+    output[at] = column as u8;
+    output[at + 1] = step as u8;
+    words::put16(output, at + 2, first);
+    words::put16(output, at + 4, last);
+}
+
+// Writes the ranges of a column as numbers n and up of the output.
+fn write_ranges(
+    output: &mut [u8],
+    n: usize,
+    column: usize,
+    step: u32,
+    firsts: &[u32],
+    lasts: &[u32],
+    count: usize,
+)
+    requires { ⌜ AllWritable (length (now output)) n column step (now firsts) (now lasts) count ⌝ }
+    ensures { λ _. ⌜ now (output .exit) ≡ splice (now (output .entry)) (range-size * n) (range-size * count) (column-bytes column step (read count (now (firsts .entry)) (now (lasts .entry)))) ⌝ }
+{
+    let mut i: usize = 0;
+    while i < count {
+        write_range(output, n + i, column, step, firsts[i], lasts[i]);
+        i += 1;
+    }
+}
+
+// Writes all ranges of the task, by rising column.
+pub fn list(record: &[u8], task: &[u8], output: &mut [u8]) -> Listed
+    requires { ⌜ Given (now «record») (now task) × (list-room ≤ length (now output)) ⌝ }
+    ensures { λ a. ⌜ Answers a (device-of (now («record» .entry))) (book-of (now («record» .entry))) (now (task .entry)) (now (output .entry)) (now (output .exit)) ⌝ }
+{
+    let mut firsts = [0u32; MAX_RUNS];
+    let mut lasts = [0u32; MAX_RUNS];
+    let last = byte(record, model::COLUMNS_AT) - 1;
+    let step = task::step(task);
+    let mut n: usize = 0;
+    let mut p: usize = 0;
+    while p <= last {
+        let count = column_ranges(record, task, p, &mut firsts, &mut lasts);
+        write_ranges(output, n, p, step, &firsts, &lasts, count);
+        n += count;
+        p += 1;
+    }
+    if n == 0 {
+        return Listed::NoPosition;
+    }
+    let answer = n as u32;
+    Listed::Ranges(answer)
 }

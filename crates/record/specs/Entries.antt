@@ -62,9 +62,9 @@ runs-none [] n h = refl
 runs-none (f ∷ b) n h = rw (ne-eqb (f .number) n (h 0 (omega arith))) (runs-none b n (λ j q. h (suc j) (omega arith)))
 
 -- and one that an entry has runs
-pub runs-at : (b : Book) (k : ℕ) → k < length b → runs-in b (getD b k no-entry .number) ≡ true
+pub found-true : (b : Book) (n k : ℕ) → Finds b n (At k) → runs-in b n ≡ true
 unfolding runs-in
-runs-at b k q = let n = getD b k no-entry .number in any-in-of (λ e. eqb (e .number) n) b (getD b k no-entry) (getD-in b k no-entry q) (eq-eqb n n refl)
+found-true b n k (q, e) = any-in-of (λ f. eqb (f .number) n) b (getD b k no-entry) (getD-in b k no-entry q) (eq-eqb (getD b k no-entry .number) n e)
 
 -- the same by the bytes of the entries
 pub found-at : (r : List ℕ) (n k : ℕ) → k < getD r running-at 0 → word r (entry-at k) ≡ n → Finds (book-of r) n (At k)

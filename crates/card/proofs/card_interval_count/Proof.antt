@@ -1,49 +1,43 @@
+-- `card_interval_count`: −1, −2, −3, or the count byte of the column. Assumes nothing.
 use borrow.Author.Needs.{needs}
+use Prim.Native.Nat.{_+_}
+use native.Mathlib.Omega.{arith}
+use Rattle.model.specs.Limits.{columns-at, counts-at}
+use Rattle.card.specs.Laws.{yes, no, few-columns, counts-length, counts-sound, counts-none, counts-some}
 use Rattle.card.proofs.card_interval_count.Statement.{statement}
 use Rattle.card.proofs.card_interval_count.Tie as tie
-use Rattle.card.proofs.card_interval_count.Reads as reads
-use Rattle.card.proofs.card_interval_count.Lts as lts
-use Rattle.record.proofs.sound.sound.Reads as sound-reads
 
--- src/lib.rt:162:9
 returns : tie.Need-returns
-returns c = ?
+returns c = counts-length _ _ (c .if1 .taken)
 
--- src/lib.rt:164:9
 sound-requires : tie.Need-sound-requires
 sound-requires c κs = search needs
 
--- src/lib.rt:165:9
 returns-2 : tie.Need-returns-2
-returns-2 c = ?
+returns-2 c = counts-sound _ _ (c .before .before .if1 .left) (no (c .before .sound .ensures) (c .if2 .taken))
 
--- src/lib.rt:167:8
 shared-slice-read-if3 : tie.Need-shared-slice-read-if3
 shared-slice-read-if3 c = search needs
 
--- src/lib.rt:167:8
 cast-if3 : tie.Need-cast-if3
-cast-if3 c = ?
+cast-if3 c = omega (arith, c .shared-slice-known2 .given columns-at)
 
--- src/lib.rt:168:9
 returns-3 : tie.Need-returns-3
-returns-3 c = ?
+returns-3 c = let s = c .before .before in counts-none _ _ (yes (s .before .sound .ensures) (s .if2 .left)) (c .if3 .taken)
 
--- src/lib.rt:170:12
 add-result : tie.Need-add-result
 add-result c = search needs
 
--- src/lib.rt:170:5
 shared-slice-read-result : tie.Need-shared-slice-read-result
-shared-slice-read-result c = ?
+shared-slice-read-result c = let s = c .before .before .before in omega (arith, few-columns _ (yes (s .before .sound .ensures) (s .if2 .left)))
 
--- src/lib.rt:170:5
 cast-result : tie.Need-cast-result
-cast-result c = ?
+cast-result c = record { sfits = omega (arith, c .shared-slice-known3 .given (counts-at + c .before .before .before .before .before .before .before .args .column)) }
 
--- src/lib.rt:157:1
 returns-4 : tie.Need-returns-4
-returns-4 c = ?
+returns-4 c =
+    let s = c .before .before .before in
+    counts-some _ _ (λ i. omega (arith, c .shared-slice-known3 .given i)) (yes (s .before .sound .ensures) (s .if2 .left)) (c .before .if3 .left)
 
 pub card-interval-count-spec : {M : Type 1} → statement M
 card-interval-count-spec =

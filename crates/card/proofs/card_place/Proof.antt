@@ -1,51 +1,61 @@
+-- `card_place`: a refusal, or the record with the task entered. Assumes nothing.
 use borrow.Author.Needs.{needs}
+use mir.Syntax.{w32}
+use Rattle.signed.proofs.Signed.{read}
+use Rattle.card.specs.Laws.{changes, check-placing, fits-natural, fits-casts, place-refused, placeable, place-done}
 use Rattle.card.proofs.card_place.Statement.{statement}
 use Rattle.card.proofs.card_place.Tie as tie
-use Rattle.card.proofs.card_place.Reads as reads
-use Rattle.card.proofs.card_place.Lts as lts
-use Rattle.card.proofs.check_task.Reads as check-task-reads
-use Rattle.card.proofs.place_checked.Reads as place-checked-reads
 
--- src/lib.rt:131:9
-check-task-requires : tie.Need-check-task-requires
-check-task-requires c κs = search needs
+check-place-requires : tie.Need-check-place-requires
+check-place-requires c κs = search needs
 
--- src/lib.rt:133:23
-enum-known-check : tie.Need-enum-known-check
-enum-known-check c = search needs
+enum-known-answer : tie.Need-enum-known-answer
+enum-known-answer c = search needs
 
--- src/lib.rt:134:38
 enum-told : tie.Need-enum-told
 enum-told c = search needs
 
--- src/lib.rt:134:24
-place-checked-requires : tie.Need-place-checked-requires
-place-checked-requires c κs = ?
+cast-enter : tie.Need-cast-enter
+cast-enter c =
+    let e = c .before in
+    let f = e .before .before .before .before .before .before .fits .bottom in
+    fits-casts _ _ _ _ f ((check-placing _ _ _ _ _ f (e .before .before .check-place .ensures) (e .enum-told .given .1)) .fits)
 
--- src/lib.rt:127:1
+enter-requires : tie.Need-enter-requires
+enter-requires c κs =
+    let e = c .before in
+    let f = e .before .before .before .before .before .before .fits .bottom in
+    let x = check-placing _ _ _ _ _ f (e .before .before .check-place .ensures) (e .enum-told .given .1) in
+    placeable _ _ _ _ _ _ x (fits-natural _ _ _ _ f (x .fits))
+
 same-length : tie.Need-same-length
 same-length c = search needs
 
--- src/lib.rt:127:1
 returns : tie.Need-returns
-returns c = ?
+returns c =
+    let k = c .before .before .before in
+    let f = k .before .before .before .before .fits .bottom in
+    rw (read w32 (c .known-told .given .0 .1)) (changes (place-refused _ _ _ _ _ f (k .check-place .ensures) (c .before .answer .given .1)))
 
--- src/lib.rt:127:1
 same-length-2 : tie.Need-same-length-2
 same-length-2 c = search needs
 
--- src/lib.rt:127:1
 returns-2 : tie.Need-returns-2
-returns-2 c = ?
+returns-2 c =
+    let e = c .before .before .before .before in
+    let f = e .before .before .before .before .before .before .fits .bottom in
+    let x = check-placing _ _ _ _ _ f (e .before .before .check-place .ensures) (e .enum-told .given .1) in
+    rw (c .before .before .enter .ensures) (changes (place-done _ _ _ _ _ _ x (fits-natural _ _ _ _ f (x .fits))))
 
 pub card-place-spec : {M : Type 1} → statement M
 card-place-spec =
     tie.close
     (tie.spec
-    check-task-requires
-    enum-known-check
+    check-place-requires
+    enum-known-answer
     enum-told
-    place-checked-requires
+    cast-enter
+    enter-requires
     same-length
     returns
     same-length-2

@@ -1,51 +1,50 @@
+-- `card_release`: −1, −2, −11, or the record without the task. Assumes nothing.
 use borrow.Author.Needs.{needs}
+use native.Mathlib.Omega.{arith}
+use Rattle.card.specs.Laws.{yes, no, changes, release-not, release-done}
+use Rattle.model.specs.Laws.OnRecord.{wrong-length-call, not-sound-call}
 use Rattle.card.proofs.card_release.Statement.{statement}
 use Rattle.card.proofs.card_release.Tie as tie
-use Rattle.card.proofs.card_release.Reads as reads
-use Rattle.card.proofs.card_release.Lts as lts
-use Rattle.card.proofs.runs.Reads as runs-reads
-use Rattle.record.proofs.leave.leave.Reads as leave-reads
-use Rattle.record.proofs.sound.sound.Reads as sound-reads
 
--- src/lib.rt:144:9
 returns : tie.Need-returns
-returns c = ?
+returns c = changes (wrong-length-call _ _ (c .if1 .taken))
 
--- src/lib.rt:146:9
 sound-requires : tie.Need-sound-requires
 sound-requires c κs = search needs
 
--- src/lib.rt:147:9
 same-length : tie.Need-same-length
 same-length c = search needs
 
--- src/lib.rt:147:9
 returns-2 : tie.Need-returns-2
-returns-2 c = ?
+returns-2 c = changes (not-sound-call _ _ (c .before .before .before .if1 .left) (no (c .before .sound .ensures) (c .if2 .taken)))
 
--- src/lib.rt:149:9
 runs-requires : tie.Need-runs-requires
-runs-requires c κs = ?
+runs-requires c κs = yes (c .before .before .sound .ensures) (c .before .if2 .left)
 
--- src/lib.rt:150:9
 same-length-2 : tie.Need-same-length-2
 same-length-2 c = search needs
 
--- src/lib.rt:150:9
 returns-3 : tie.Need-returns-3
-returns-3 c = ?
+returns-3 c =
+    let s = c .before .before .before in
+    let a = s .before .before .before .before in
+    changes (release-not _ _ (yes (s .before .sound .ensures) (s .if2 .left)) (λ i. omega (arith, a .slice-known .given i)) (no (c .before .runs .ensures) (c .if3 .taken)))
 
--- src/lib.rt:152:5
 leave-requires : tie.Need-leave-requires
-leave-requires c κs = ?
+leave-requires c κs =
+    let n = c .before in
+    let s = n .before .before .before in
+    (yes (s .before .sound .ensures) (s .if2 .left), yes (n .before .runs .ensures) (n .if3 .left))
 
--- src/lib.rt:139:1
 same-length-3 : tie.Need-same-length-3
 same-length-3 c = search needs
 
--- src/lib.rt:139:1
 returns-4 : tie.Need-returns-4
-returns-4 c = ?
+returns-4 c =
+    let l = c .before .before in
+    let n = l .before .before in
+    let s = n .before .before .before in
+    rw (l .leave .ensures) (changes (release-done _ _ (yes (s .before .sound .ensures) (s .if2 .left)) (yes (n .before .runs .ensures) (n .if3 .left))))
 
 pub card-release-spec : {M : Type 1} → statement M
 card-release-spec =

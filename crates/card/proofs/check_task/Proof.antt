@@ -1,43 +1,48 @@
+-- `check_task`: −1, −2, −4, −5, or none of them. Assumes nothing.
 use borrow.Author.Needs.{needs}
+use native.Mathlib.Omega.{arith}
+use Rattle.card.specs.Laws.{yes, no, check-length, check-sound, check-sized, check-formed}
 use Rattle.card.proofs.check_task.Statement.{statement}
 use Rattle.card.proofs.check_task.Tie as tie
-use Rattle.card.proofs.check_task.Reads as reads
-use Rattle.card.proofs.check_task.Lts as lts
-use Rattle.record.proofs.sound.sound.Reads as sound-reads
-use Rattle.task.proofs.sized.Reads as sized-reads
-use Rattle.task.proofs.well_formed.Reads as well-formed-reads
 
--- src/lib.rt:42:9
 returns : tie.Need-returns
-returns c = ?
+returns c = check-length _ _ (c .if1 .taken)
 
--- src/lib.rt:44:9
 sound-requires : tie.Need-sound-requires
 sound-requires c κs = search needs
 
--- src/lib.rt:45:9
 returns-2 : tie.Need-returns-2
-returns-2 c = ?
+returns-2 c = check-sound _ _ (c .before .before .if1 .left) (no (c .before .sound .ensures) (c .if2 .taken))
 
--- src/lib.rt:47:9
 sized-requires : tie.Need-sized-requires
 sized-requires c κs = search needs
 
--- src/lib.rt:48:9
 returns-3 : tie.Need-returns-3
-returns-3 c = ?
+returns-3 c =
+    let s = c .before .before in
+    let a = s .before .before .before .before in
+    check-sized _ _ (λ i. omega (arith, a .shared-slice-known .given i)) (yes (s .before .sound .ensures) (s .if2 .left)) (no (c .before .sized .ensures) (c .if3 .taken))
 
--- src/lib.rt:50:9
 well-formed-requires : tie.Need-well-formed-requires
 well-formed-requires c κs = search needs
 
--- src/lib.rt:51:9
 returns-4 : tie.Need-returns-4
-returns-4 c = ?
+returns-4 c =
+    let z = c .before .before in
+    let s = z .before .before in
+    let a = s .before .before .before .before in
+    check-formed _ _ (λ i. omega (arith, a .shared-slice-known .given i)) (yes (s .before .sound .ensures) (s .if2 .left)) (yes (z .before .sized .ensures) (z .if3 .left))
+    (no (c .before .well-formed .ensures) (c .if4 .taken))
 
--- src/lib.rt:38:1
 returns-5 : tie.Need-returns-5
-returns-5 c = ?
+returns-5 c =
+    let z = c .before .before in
+    let s = z .before .before in
+    record {
+      sound = yes (s .before .sound .ensures) (s .if2 .left);
+      sized = yes (z .before .sized .ensures) (z .if3 .left);
+      formed = yes (c .before .well-formed .ensures) (c .if4 .left);
+    }
 
 pub check-task-spec : {M : Type 1} → statement M
 check-task-spec =

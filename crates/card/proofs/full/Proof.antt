@@ -1,19 +1,19 @@
+-- `full`: the running byte. Assumes nothing.
+use native.Mathlib.Omega.{arith}
+use Rattle.model.specs.Limits.{running-at}
+use Rattle.model.specs.Laws.Sound.{sound-length}
+use Rattle.card.specs.Laws.{full-said}
 use Rattle.card.proofs.full.Statement.{statement}
 use Rattle.card.proofs.full.Tie as tie
-use Rattle.card.proofs.full.Reads as reads
-use Rattle.card.proofs.full.Lts as lts
 
--- src/lib.rt:83:27
 shared-slice-read-result : tie.Need-shared-slice-read-result
-shared-slice-read-result c = ?
+shared-slice-read-result c = omega (arith, sound-length _ (c .before .pre))
 
--- src/lib.rt:83:27
 cast-result : tie.Need-cast-result
-cast-result c = ?
+cast-result c = omega (arith, c .shared-slice-known .given running-at)
 
--- src/lib.rt:79:1
 returns : tie.Need-returns
-returns c = ?
+returns c = full-said _
 
 pub full-spec : {M : Type 1} → statement M
 full-spec = tie.close (tie.spec shared-slice-read-result cast-result returns)

@@ -1,65 +1,74 @@
-use borrow.Author.Needs.{needs}
+-- `intervals`: empty, or the part of the column. Assumes nothing.
+use borrow.Author.Needs.{needs, sfits-of}
+use native.Mathlib.Omega.{arith}
+use mir.Syntax.{w32}
+use Rattle.signed.proofs.Signed.{negative, natural, unsigned}
+use Rattle.card.specs.Laws.{view-empty, view-counted, view-part}
 use Rattle.card.proofs.intervals.Statement.{statement}
 use Rattle.card.proofs.intervals.Tie as tie
-use Rattle.card.proofs.intervals.Reads as reads
-use Rattle.card.proofs.intervals.Lts as lts
-use Rattle.card.proofs.card_interval_count.Reads as card-interval-count-reads
 
--- src/lib.rt:177:9
 card-interval-count-requires : tie.Need-card-interval-count-requires
 card-interval-count-requires c κs = search needs
 
--- src/lib.rt:179:16
 sub-result : tie.Need-sub-result
 sub-result c = search needs
 
--- src/lib.rt:179:16
 part-result-start : tie.Need-part-result-start
 part-result-start c = search needs
 
--- src/lib.rt:179:16
 part-result-end : tie.Need-part-result-end
 part-result-end c = search needs
 
--- src/lib.rt:179:9
 returns : tie.Need-returns
-returns c = ?
+returns c =
+    let k = c .before .before in
+    let f = sfits-of {w = w32} {z = k .card-interval-count .result} (k .card-interval-count .ok) in
+    view-empty _ _ _ (k .card-interval-count .ensures) (negative f (c .before .if1 .taken))
 
--- src/lib.rt:181:35
 mul-a : tie.Need-mul-a
 mul-a c = search needs
 
--- src/lib.rt:181:13
 add-a : tie.Need-add-a
 add-a c = search needs
 
--- src/lib.rt:182:40
 cast-e : tie.Need-cast-e
-cast-e c = ?
+cast-e c =
+    let k = c .before in
+    let f = sfits-of {w = w32} {z = k .card-interval-count .result} (k .card-interval-count .ok) in
+    unsigned f tt (c .if1 .left)
 
--- src/lib.rt:182:17
 mul-e : tie.Need-mul-e
-mul-e c = ?
+mul-e c =
+    let k = c .before in
+    let f = sfits-of {w = w32} {z = k .card-interval-count .result} (k .card-interval-count .ok) in
+    let x = view-counted _ _ _ (k .card-interval-count .ensures) _ (natural f (c .if1 .left)) in
+    omega arith
 
--- src/lib.rt:182:13
 add-e : tie.Need-add-e
-add-e c = ?
+add-e c =
+    let k = c .before in
+    let f = sfits-of {w = w32} {z = k .card-interval-count .result} (k .card-interval-count .ok) in
+    let x = view-counted _ _ _ (k .card-interval-count .ensures) _ (natural f (c .if1 .left)) in
+    omega arith
 
--- src/lib.rt:183:5
 sub-result-2 : tie.Need-sub-result-2
 sub-result-2 c = search needs
 
--- src/lib.rt:183:5
 part-result-start-2 : tie.Need-part-result-start-2
 part-result-start-2 c = search needs
 
--- src/lib.rt:183:5
 part-result-end-2 : tie.Need-part-result-end-2
-part-result-end-2 c = ?
+part-result-end-2 c =
+    let k = c .before in
+    let f = sfits-of {w = w32} {z = k .card-interval-count .result} (k .card-interval-count .ok) in
+    let x = view-counted _ _ _ (k .card-interval-count .ensures) _ (natural f (c .if1 .left)) in
+    omega arith
 
--- src/lib.rt:174:1
 returns-2 : tie.Need-returns-2
-returns-2 c = ?
+returns-2 c =
+    let k = c .before .before in
+    let f = sfits-of {w = w32} {z = k .card-interval-count .result} (k .card-interval-count .ok) in
+    view-part _ _ _ (k .card-interval-count .ensures) _ (natural f (c .before .if1 .left))
 
 pub intervals-spec : {M : Type 1} → statement M
 intervals-spec =

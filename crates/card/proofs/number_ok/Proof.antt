@@ -1,15 +1,13 @@
+-- `number_ok`: 0, or the test of the upper limit. Assumes nothing.
+use Rattle.card.specs.Laws.{number-zero, number-some}
 use Rattle.card.proofs.number_ok.Statement.{statement}
 use Rattle.card.proofs.number_ok.Tie as tie
-use Rattle.card.proofs.number_ok.Reads as reads
-use Rattle.card.proofs.number_ok.Lts as lts
 
--- src/lib.rt:61:9
 returns : tie.Need-returns
-returns c = ?
+returns c = number-zero _ (c .if1 .taken)
 
--- src/lib.rt:57:1
 returns-2 : tie.Need-returns-2
-returns-2 c = ?
+returns-2 c = number-some _ (c .if1 .left)
 
 pub number-ok-spec : {M : Type 1} → statement M
 number-ok-spec = tie.close (tie.spec returns returns-2)

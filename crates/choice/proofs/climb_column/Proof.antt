@@ -9,7 +9,7 @@ use Rattle.choice.proofs.climb_column.Tie as tie
 column-ranges-requires : tie.Need-column-ranges-requires
 column-ranges-requires c κs =
     let p = c .before .before .before .before .before .before .pre in
-    (record { sound = p .0 .sound; sized = p .0 .sized; formed = p .0 .well-formed }, p .3, p .1)
+    (p .0, p .3, p .1)
 
 slice-reshare-prefix-climb-ranges : tie.Need-slice-reshare-prefix-climb-ranges
 slice-reshare-prefix-climb-ranges c = search needs

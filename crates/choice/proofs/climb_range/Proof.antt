@@ -14,7 +14,7 @@ abbrev μ-loop : tie.MeasureT-loop
 μ-loop «record» task column range best₀ y₀ best y = range .last + 1 - y
 
 loop-holds : tie.Need-loop-holds Inv-loop μ-loop
-loop-holds c = let p = c .before .before .pre in climbing-start _ _ _ (p .0 .well-formed) (sized-to _ (p .0 .sized) .some-blocks) _ _ (p .1) _ (p .2)
+loop-holds c = let p = c .before .before .pre in climbing-start _ _ _ (p .0 .formed) (sized-to _ (p .0 .sized) .some-blocks) _ _ (p .1) _ (p .2)
 
 score-at-requires : tie.Need-score-at-requires Inv-loop μ-loop
 score-at-requires c κs =
@@ -49,13 +49,13 @@ loop-again c =
     let i = c .before .before .before in
     let l = i .before .before in
     let p = l .before .before .before .pre in
-    climbing-next _ _ _ (p .0 .well-formed) (sized-to _ (p .0 .sized) .some-blocks) _ _ (p .1) _ _ _ _ _ _ (i .if1 .taken) (c .before .before .score-at .ensures) (c .rise .ensures) (c .before .consider .ensures .0) (c .before .consider .ensures .1) (l .loop .inv)
+    climbing-next _ _ _ (p .0 .formed) (sized-to _ (p .0 .sized) .some-blocks) _ _ (p .1) _ _ _ _ _ _ (i .if1 .taken) (c .before .before .score-at .ensures) (c .rise .ensures) (c .before .consider .ensures .0) (c .before .consider .ensures .1) (l .loop .inv)
 
 returns : tie.Need-returns Inv-loop μ-loop
 returns c =
     let l = c .before .before in
     let p = l .before .before .before .pre in
-    climbing-done _ _ _ (p .0 .well-formed) (sized-to _ (p .0 .sized) .some-blocks) _ _ (p .1) _ _ _ (c .if1 .left) (l .loop .inv)
+    climbing-done _ _ _ (p .0 .formed) (sized-to _ (p .0 .sized) .some-blocks) _ _ (p .1) _ _ _ (c .if1 .left) (l .loop .inv)
 
 pub climb-range-spec : {M : Type 1} → statement M
 climb-range-spec =

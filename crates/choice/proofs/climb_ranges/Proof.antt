@@ -17,7 +17,7 @@ abbrev μ-loop : tie.MeasureT-loop
 loop-holds : tie.Need-loop-holds Inv-loop μ-loop
 loop-holds c =
     let p = c .before .before .before .before .pre in
-    passed-none _ _ _ (p .0 .well-formed) (sized-to _ (p .0 .sized) .some-blocks) _ _ (p .3)
+    passed-none _ _ _ (p .0 .formed) (sized-to _ (p .0 .sized) .some-blocks) _ _ (p .3)
 
 mul-t11 : tie.Need-mul-t11 Inv-loop μ-loop
 mul-t11 c = omega arith
@@ -36,7 +36,7 @@ climb-range-requires c κs =
     let l = c .before .before in
     let p = l .before .before .before .before .before .before .pre in
     let i = rw (p .2 .firsts-length) at (l .loop-test .taken) in
-    (p .0, range-fits _ _ _ (p .0 .well-formed) (sized-to _ (p .0 .sized) .some-blocks) _ _ _ _ i (p .2 .entries _ _ i) _ (p .1), l .before .loop .inv .climbed .small)
+    (p .0, range-fits _ _ _ (p .0 .formed) (sized-to _ (p .0 .sized) .some-blocks) _ _ _ _ i (p .2 .entries _ _ i) _ (p .1), l .before .loop .inv .climbed .small)
 
 add-i : tie.Need-add-i Inv-loop μ-loop
 add-i c = omega arith
@@ -49,12 +49,12 @@ loop-again c =
     let l = c .before .before .before in
     let p = l .before .before .before .before .before .before .pre in
     let i = rw (p .2 .firsts-length) at (l .loop-test .taken) in
-    passed-next _ _ _ (p .0 .well-formed) (sized-to _ (p .0 .sized) .some-blocks) _ _ _ _ i (p .2 .entries _ _ i) _ _ _ (l .before .loop .inv) (c .climb-range .ensures)
+    passed-next _ _ _ (p .0 .formed) (sized-to _ (p .0 .sized) .some-blocks) _ _ _ _ i (p .2 .entries _ _ i) _ _ _ (l .before .loop .inv) (c .climb-range .ensures)
 
 returns : tie.Need-returns Inv-loop μ-loop
 returns c =
     let p = c .before .before .before .before .before .before .pre in
-    passed-all _ _ _ (p .0 .well-formed) (sized-to _ (p .0 .sized) .some-blocks) _ _ _ _ (rw (p .2 .firsts-length) at (c .loop-test .left)) (c .before .loop .inv)
+    passed-all _ _ _ (p .0 .formed) (sized-to _ (p .0 .sized) .some-blocks) _ _ _ _ (rw (p .2 .firsts-length) at (c .loop-test .left)) (c .before .loop .inv)
 
 pub climb-ranges-spec : {M : Type 1} → statement M
 climb-ranges-spec =

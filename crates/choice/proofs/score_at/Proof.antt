@@ -70,7 +70,7 @@ returns : tie.Need-returns Inv-loop μ-loop
 unfolding blocks placed
 returns c =
     let p = c .before .before .before .before .pre in
-    scored _ _ _ _ _ _ _ _ _ _ (p .0 .well-formed) (sized-to _ (p .0 .sized) .few) (p .1) (c .loop-test .left) (c .before .loop .inv)
+    scored _ _ _ _ _ _ _ _ _ _ (p .0 .formed) (sized-to _ (p .0 .sized) .few) (p .1) (c .loop-test .left) (c .before .loop .inv)
 
 pub score-at-spec : {M : Type 1} → statement M
 score-at-spec =

@@ -8,7 +8,7 @@ use Rattle.choice.proofs.seat_at.Statement.{statement}
 use Rattle.choice.proofs.seat_at.Tie as tie
 
 block-at-requires : tie.Need-block-at-requires
-block-at-requires c κs = let p = c .before .before .pre in block-ready _ _ (p .0 .well-formed) (p .2)
+block-at-requires c κs = let p = c .before .before .pre in block-ready _ _ (p .0 .formed) (p .2)
 
 add-c : tie.Need-add-c
 add-c c =

@@ -27,7 +27,8 @@ use Rattle.model.specs.Laws.Sound.{sound-within}
 use Rattle.model.specs.Laws.Raised.{Room}
 use Rattle.model.specs.Laws.Climb.{climb-none}
 use Rattle.model.specs.Laws.Ends.{raised-steps, choose-step}
-use Rattle.choice.specs.Choosing.{Asked, max-pieces, max-stretch, Scored, Small, Is, better-of, Rises, Climbed, FitsRange}
+use Rattle.listing.specs.Columns.{Given}
+use Rattle.choice.specs.Choosing.{max-pieces, max-stretch, Scored, Small, Is, better-of, Rises, Climbed, FitsRange}
 use Rattle.choice.specs.declared.Score.{Score}
 use Rattle.choice.specs.declared.Best.{Best}
 use Rattle.choice.specs.declared.Best.the-variants.{Nothing, At}
@@ -88,9 +89,9 @@ pub rise-pos : {room step v : ℕ} → Rises room step v → 1 ≤ step → 1 �
 rise-pos r l = omega (arith, r .is)
 
 -- a bottom at which the task fits is below 256
-pub bottom-small : (r t : List ℕ) → Asked r t → (p y : ℕ) → fits (device-of r) (book-of r) t p y ≡ true → y < 2 * max-rows
+pub bottom-small : (r t : List ℕ) → Given r t → (p y : ℕ) → fits (device-of r) (book-of r) t p y ≡ true → y < 2 * max-rows
 bottom-small r t a p y f =
-    let on = fits-below (device-of r) (book-of r) t p y (a .well-formed) (sized-to t (a .sized) .some-blocks) f in
+    let on = fits-below (device-of r) (book-of r) t p y (a .formed) (sized-to t (a .sized) .some-blocks) f in
     omega (arith, limits-to (device-of r) (book-of r) (sound-within r (a .sound)) .rows)
 
 -- ---- one range

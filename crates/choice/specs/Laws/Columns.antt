@@ -28,9 +28,9 @@ use Rattle.model.specs.Laws.Climb.{climb-none}
 use Rattle.model.specs.Laws.Ends.{chosen-at}
 use Rattle.model.specs.Laws.NoPosition.{chosen-nothing-iff}
 use Rattle.listing.specs.Arrays.{Room}
-use Rattle.listing.specs.Columns.{Ranged}
+use Rattle.listing.specs.Columns.{Given, Ranged}
 use Rattle.listing.specs.Laws.Arrays.{length-read, getD-read}
-use Rattle.choice.specs.Choosing.{Asked, Small, Is, Climbed, FitsRange, ranges-in, RangesAre, Chooses}
+use Rattle.choice.specs.Choosing.{Small, Is, Climbed, FitsRange, ranges-in, RangesAre, Chooses}
 use Rattle.choice.specs.Laws.Ranges.{run-named, run-at, none-before, none-between, next-above, start-past}
 use Rattle.choice.specs.declared.Best.{Best}
 use Rattle.choice.specs.declared.Best.the-variants.{Nothing, At}
@@ -160,7 +160,7 @@ module _ (d : Device) (b : Book) (t : List ℕ) where
   best-next p e e′ l h g = rw add-one (record { within = l; small = g .small; is = g .found (choice (judge d b t) (half-rows d) p) (h .is) })
 
 -- the column count that a sound record says is the device's, and not 0
-pub column-count : (r t : List ℕ) → Asked r t → (n : ℕ) → n ≡ getD r columns-at 0 → (n ≡ columns (device-of r)) × (1 ≤ n) × (n ≤ max-columns)
+pub column-count : (r t : List ℕ) → Given r t → (n : ℕ) → n ≡ getD r columns-at 0 → (n ≡ columns (device-of r)) × (1 ≤ n) × (n ≤ max-columns)
 column-count r t a n e =
     let m = limits-to (device-of r) (book-of r) (sound-within r (a .sound)) in
     let one = m .columns-one in
@@ -168,7 +168,7 @@ column-count r t a n e =
     omega (arith, columns-said r)
 
 -- THEOREM: what is found in all columns is the choice
-pub chooses : (r t : List ℕ) → Asked r t → (p : ℕ) (e : Best) → columns (device-of r) ≤ p → Best-of (device-of r) (book-of r) t p e → Chooses (device-of r) (book-of r) t e
+pub chooses : (r t : List ℕ) → Given r t → (p : ℕ) (e : Best) → columns (device-of r) ≤ p → Best-of (device-of r) (book-of r) t p e → Chooses (device-of r) (book-of r) t e
 unfolding chosen judge
 chooses r t a p e l h = let q : p ≡ columns (device-of r) = omega (arith, h .within) in go e (rw q at (h .is))
   where
@@ -182,15 +182,15 @@ chooses r t a p e l h = let q : p ≡ columns (device-of r) = omega (arith, h .w
     n = sized-to t (a .sized) .some-blocks
 
     nowhere : (chosen d b t ≡ nothing) → no-position d b t ≡ true
-    nowhere = chosen-nothing-iff d b t (a .well-formed) n .0
+    nowhere = chosen-nothing-iff d b t (a .formed) n .0
 
     somewhere : (q z : ℕ) → chosen d b t ≡ at q z → no-position d b t ≡ false
-    somewhere q z e = is-false (no-position d b t) (λ k. let f = chosen-nothing-iff d b t (a .well-formed) n .1 k in let z : _≡_ {A = ℕ} 0 1 = cc in omega arith)
+    somewhere q z e = is-false (no-position d b t) (λ k. let f = chosen-nothing-iff d b t (a .formed) n .1 k in let z : _≡_ {A = ℕ} 0 1 = cc in omega arith)
 
     go : (e : Best) → Is (judge d b t) (choice (judge d b t) (half-rows d) (columns d)) e → Chooses d b t e
     go Nothing f = (f, nowhere f)
     go (At q z m s) (f, en, es) =
-        let at = chosen-at d b t (a .well-formed) n q z f in
+        let at = chosen-at d b t (a .formed) n q z f in
         let m = limits-to d b (sound-within r (a .sound)) in
         record {
           chosen = f;

@@ -9,7 +9,7 @@ use lib.ListN.{length, getD, take, drop}
 use Rattle.runs.specs.Intervals.{Interval, interval, Holds}
 use Rattle.model.specs.Limits.{max-rows, max-columns, reach, column-size, interval-size}
 use Rattle.model.specs.Columns.{Device, columns, top}
-use Rattle.model.specs.Tasks.{word, blocks, block, well-formed}
+use Rattle.model.specs.Tasks.{word, blocks, block}
 use Rattle.model.specs.Book.{Book, placed, fits, intervals}
 use Rattle.model.specs.Choice.{holder, home}
 use Rattle.model.specs.Record.{part, column-at, device-of, book-of, listed-intervals}
@@ -33,7 +33,8 @@ use Rattle.column.specs.declared.Held.{Held}
 use Rattle.column.specs.declared.Held.the-variants.{In as Inside, Nowhere}
 use Rattle.task.specs.declared.Block.{Block}
 use Rattle.task.specs.Blocks.{Same}
-use Rattle.choice.specs.Choosing.{Asked, Seated}
+use Rattle.listing.specs.Columns.{Given}
+use Rattle.choice.specs.Choosing.{Seated}
 
 -- ---- the intervals that a column's part lists
 
@@ -94,7 +95,7 @@ pub record Stood (d : Device) (b : Book) (t : List ℕ) (p y k : ℕ) : Type 0 w
   pub high : y + block t k .high ≤ 2 * max-rows + reach
   pub held : Holds (y + block t k .low - reach) (y + block t k .high - reach) (intervals d b (p + block t k .column))
 
-module _ (r t : List ℕ) (a : Asked r t) (p y k : ℕ) (f : fits (device-of r) (book-of r) t p y ≡ true) (l : k < blocks t) where
+module _ (r t : List ℕ) (a : Given r t) (p y k : ℕ) (f : fits (device-of r) (book-of r) t p y ≡ true) (l : k < blocks t) where
   d : Device
   d = device-of r
 
@@ -114,7 +115,7 @@ module _ (r t : List ℕ) (a : Asked r t) (p y k : ℕ) (f : fits (device-of r) 
       let g = fits-to d b t p y f k l in
       let g1 = g .column in
       let g2 = g .below in
-      let full = full-block t (a .well-formed) k l in
+      let full = full-block t (a .formed) k l in
       record {
         column = omega arith;
         low = g .above;

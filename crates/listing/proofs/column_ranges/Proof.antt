@@ -5,11 +5,6 @@ use Rattle.listing.specs.Laws.Column.{ranged-none, lowerable, ranged}
 use borrow.Author.Needs.{needs}
 use Rattle.listing.proofs.column_ranges.Statement.{statement}
 use Rattle.listing.proofs.column_ranges.Tie as tie
-use Rattle.listing.proofs.column_ranges.Reads as reads
-use Rattle.listing.proofs.column_ranges.Lts as lts
-use Rattle.listing.proofs.lifted_bottoms.Reads as lifted-bottoms-reads
-use Rattle.listing.proofs.lower.Reads as lower-reads
-use Rattle.listing.proofs.on_columns.Reads as on-columns-reads
 
 on-columns-requires : tie.Need-on-columns-requires
 on-columns-requires c κs = search needs

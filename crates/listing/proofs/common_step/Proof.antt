@@ -1,12 +1,8 @@
 -- `listing::common_step` meets its contract: two ranges that both name 0 meet. Assumes nothing.
-use native.Mathlib.Omega.{arith}
 use Rattle.listing.specs.Laws.Arrays.{steps-proper, zero-met, met-both}
 use borrow.Author.Needs.{needs}
 use Rattle.listing.proofs.common_step.Statement.{statement}
 use Rattle.listing.proofs.common_step.Tie as tie
-use Rattle.listing.proofs.common_step.Reads as reads
-use Rattle.listing.proofs.common_step.Lts as lts
-use Rattle.runs.proofs.meet.Reads as meet-reads
 
 meet-requires : tie.Need-meet-requires
 meet-requires c κs = steps-proper (c .args .a) (c .args .b) (c .pre)

@@ -2,12 +2,9 @@
 use Prim.Native.Nat.{_-_, _≤_}
 use mathlib.Core.Path.{_≡_}
 use native.Mathlib.Omega.{arith}
-use lib.ListN.{length-set}
 use Rattle.listing.specs.Laws.Arrays.{Copying, copy-start, copy-next}
 use Rattle.listing.proofs.copy_runs.Statement.{statement}
 use Rattle.listing.proofs.copy_runs.Tie as tie
-use Rattle.listing.proofs.copy_runs.Reads as reads
-use Rattle.listing.proofs.copy_runs.Lts as lts
 
 abbrev Inv-loop : tie.InvT-loop
 Inv-loop firsts lasts n lows₀ highs₀ i₀ lows highs i = Copying firsts lasts i lows highs × (i ≤ n)

@@ -1,6 +1,6 @@
 -- `listing::lifted_bottoms` meets its contract: the blocks below k are met. Assumes nothing.
 use Prim.Native.Nat.{_-_, _≤_}
-use mathlib.Core.Path.{_≡_, refl, sym, _∙_}
+use mathlib.Core.Path.{refl, sym, _∙_}
 use native.Mathlib.Omega.{arith}
 use Rattle.model.specs.Tasks.{blocks}
 use Rattle.listing.specs.Arrays.{Room}
@@ -8,10 +8,6 @@ use Rattle.listing.specs.Columns.{LiftedTo}
 use Rattle.listing.specs.Laws.Column.{first-ready, few-blocks, start-lifted, lifted-all}
 use Rattle.listing.proofs.lifted_bottoms.Statement.{statement}
 use Rattle.listing.proofs.lifted_bottoms.Tie as tie
-use Rattle.listing.proofs.lifted_bottoms.Reads as reads
-use Rattle.listing.proofs.lifted_bottoms.Lts as lts
-use Rattle.listing.proofs.meet_next.Reads as meet-next-reads
-use Rattle.listing.proofs.start_list.Reads as start-list-reads
 
 abbrev Inv-loop : tie.InvT-loop
 Inv-loop «record» task p firsts₀ lasts₀ lows₀ highs₀ count list₀ k₀ firsts lasts lows highs list k =

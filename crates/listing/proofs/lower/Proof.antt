@@ -2,12 +2,9 @@
 use Prim.Native.Nat.{_-_, _≤_}
 use mathlib.Core.Path.{_≡_}
 use native.Mathlib.Omega.{arith}
-use lib.ListN.{length-set}
 use Rattle.listing.specs.Laws.Arrays.{Lowering, lower-start, lower-next}
 use Rattle.listing.proofs.lower.Statement.{statement}
 use Rattle.listing.proofs.lower.Tie as tie
-use Rattle.listing.proofs.lower.Reads as reads
-use Rattle.listing.proofs.lower.Lts as lts
 
 abbrev Inv-loop : tie.InvT-loop
 Inv-loop firsts₀ lasts₀ n i₀ firsts lasts i = Lowering firsts₀ lasts₀ i firsts lasts × (i ≤ n)

@@ -1,11 +1,9 @@
 -- `listing::meet_block` meets its contract: the walk along two lists, by the laws of Laws/Walk. Assumes nothing.
-use Prim.Native.Nat.{ℕ, _+_, _-_, _*_, _≤_, _<_}
+use Prim.Native.Nat.{_+_, _-_, _≤_, _<_}
 use mathlib.Core.Path.{_≡_, ap₂, _∙_}
 use mathlib.Core.Logic.{inl, inr}
 use native.Mathlib.Omega.{arith}
-use lib.ListN.{length, getD}
 use borrow.Author.Tests.{ltb-true, ltb-false}
-use Rattle.runs.specs.declared.Range.{Range}
 use Rattle.model.specs.Columns.{height}
 use Rattle.model.specs.Sound.{count-of}
 use Rattle.task.specs.Blocks.{seen}
@@ -14,12 +12,6 @@ use Rattle.listing.specs.Arrays.{read, Room, Meetable, bottom-at, top-at
 use Rattle.listing.specs.Laws.Walk.{Walking, walking-start, walking-short, puttable, walking-left, walking-right, walking-done}
 use Rattle.listing.proofs.meet_block.Statement.{statement}
 use Rattle.listing.proofs.meet_block.Tie as tie
-use Rattle.listing.proofs.meet_block.Reads as reads
-use Rattle.listing.proofs.meet_block.Lts as lts
-use Rattle.listing.proofs.bottoms_in.Reads as bottoms-in-reads
-use Rattle.listing.proofs.byte.Reads as byte-reads
-use Rattle.listing.proofs.interval_at.Reads as interval-at-reads
-use Rattle.listing.proofs.put.Reads as put-reads
 
 -- where the walk is at run i and interval j, n runs are written
 abbrev Inv-loop : tie.InvT-loop

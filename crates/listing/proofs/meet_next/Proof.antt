@@ -6,13 +6,6 @@ use Rattle.listing.specs.Laws.Column.{block-ready, on-column, meetable, 
 use borrow.Author.Needs.{needs}
 use Rattle.listing.proofs.meet_next.Statement.{statement}
 use Rattle.listing.proofs.meet_next.Tie as tie
-use Rattle.listing.proofs.meet_next.Reads as reads
-use Rattle.listing.proofs.meet_next.Lts as lts
-use Rattle.listing.proofs.common_step.Reads as common-step-reads
-use Rattle.listing.proofs.copy_runs.Reads as copy-runs-reads
-use Rattle.listing.proofs.meet_block.Reads as meet-block-reads
-use Rattle.task.proofs.Block.height.Reads as height-reads
-use Rattle.task.proofs.block_at.Reads as block-at-reads
 
 -- the copy keeps its lengths
 room : (c : tie.After-copy-runs) → Room (c .copy-runs .last .1 .1 .1 .0) (c .copy-runs .last .1 .1 .1 .1 .0)

@@ -6,10 +6,6 @@ use Rattle.listing.specs.Laws.Column.{kind-off, kind-at, kind-within}
 use borrow.Author.Needs.{needs}
 use Rattle.listing.proofs.of_kind.Statement.{statement}
 use Rattle.listing.proofs.of_kind.Tie as tie
-use Rattle.listing.proofs.of_kind.Reads as reads
-use Rattle.listing.proofs.of_kind.Lts as lts
-use Rattle.listing.proofs.byte.Reads as byte-reads
-use Rattle.model.proofs.Kind.number.Reads as number-reads
 
 byte-requires : tie.Need-byte-requires
 byte-requires c κs = omega (arith, sound-length (c .before .args .«record» .now) (c .before .pre))

@@ -7,10 +7,6 @@ use Rattle.listing.specs.Columns.{On}
 use Rattle.listing.specs.Laws.Column.{block-ready, column-small, on-next, on-none, on-all}
 use Rattle.listing.proofs.on_columns.Statement.{statement}
 use Rattle.listing.proofs.on_columns.Tie as tie
-use Rattle.listing.proofs.on_columns.Reads as reads
-use Rattle.listing.proofs.on_columns.Lts as lts
-use Rattle.listing.proofs.of_kind.Reads as of-kind-reads
-use Rattle.task.proofs.block_at.Reads as block-at-reads
 
 abbrev Inv-loop : tie.InvT-loop
 Inv-loop «record» task p count k₀ k =

@@ -1,16 +1,14 @@
 -- `listing::push` meets its contract, by `push-longer` where the last run goes on and `push-more` where it does not. Assumes nothing.
-use Prim.Native.Nat.{ℕ, _+_, _-_, _≤_, _<_}
+use Prim.Native.Nat.{_+_, _-_, _≤_, _<_}
 use mathlib.Core.Path.{_≡_}
 use mathlib.Core.Logic.{⊎-elim}
 use native.Mathlib.Omega.{arith}
-use lib.ListN.{getD, length-set}
+use lib.ListN.{getD}
 use Rattle.listing.specs.Laws.Arrays.{push-longer, push-more, pushable-le, pushable-lt}
 use Rattle.listing.specs.Arrays.{max-runs}
 use borrow.Author.Needs.{needs}
 use Rattle.listing.proofs.push.Statement.{statement}
 use Rattle.listing.proofs.push.Tie as tie
-use Rattle.listing.proofs.push.Reads as reads
-use Rattle.listing.proofs.push.Lts as lts
 
 below : (c : tie.Start) → c .args .n ≤ max-runs
 below c = pushable-le (c .args .firsts .now) (c .args .lasts .now) (c .args .n) (c .args .r) (c .pre)

@@ -4,10 +4,6 @@ use Rattle.listing.specs.Laws.Arrays.{joined-empty, met-both}
 use borrow.Author.Needs.{needs}
 use Rattle.listing.proofs.put.Statement.{statement}
 use Rattle.listing.proofs.put.Tie as tie
-use Rattle.listing.proofs.put.Reads as reads
-use Rattle.listing.proofs.put.Lts as lts
-use Rattle.listing.proofs.push.Reads as push-reads
-use Rattle.runs.proofs.meet.Reads as meet-reads
 
 meet-requires : tie.Need-meet-requires
 meet-requires c κs = search needs

@@ -6,10 +6,6 @@ use Rattle.listing.specs.Laws.Column.{start-small, start-of}
 use borrow.Author.Needs.{needs}
 use Rattle.listing.proofs.start_list.Statement.{statement}
 use Rattle.listing.proofs.start_list.Tie as tie
-use Rattle.listing.proofs.start_list.Reads as reads
-use Rattle.listing.proofs.start_list.Lts as lts
-use Rattle.task.proofs.Block.height.Reads as height-reads
-use Rattle.task.proofs.block_at.Reads as block-at-reads
 
 block-at-requires : tie.Need-block-at-requires
 block-at-requires c κs = search needs

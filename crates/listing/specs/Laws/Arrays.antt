@@ -16,7 +16,7 @@ use Rattle.runs.specs.Meet.{Step, Proper, Both-of, Meets}
 use Rattle.runs.specs.declared.Range.{Range}
 use Rattle.runs.specs.declared.Met.{Met}
 use Rattle.runs.specs.declared.Met.the-variants.{Empty, Both}
-use Rattle.runs.specs.Runs.{Run, run, Steps, In, Mem, From, Canon, push}
+use Rattle.runs.specs.Runs.{Run, run, Steps, Mem, From, Canon, push}
 use Rattle.runs.specs.Laws.Streaming.{push-join, push-apart}
 use Rattle.runs.specs.Laws.Both.{count-above, from-least}
 use Rattle.model.specs.Limits.{max-rows}

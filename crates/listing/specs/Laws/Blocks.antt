@@ -1,5 +1,5 @@
 -- The bottoms of the first blocks of a task: none met, one block more, and all. At the end they are, lowered again, the model's ranges. Assumes nothing.
-use Prim.Native.Nat.{ℕ, zero, suc, _+_, _-_, _*_, _/_, _%_, _≤_, _<_, max}
+use Prim.Native.Nat.{ℕ, zero, suc, _+_, _-_, _*_, _/_, _≤_, _<_, max}
 use mathlib.Core.Path.{_≡_, refl, sym, ap, _∙_}
 use mathlib.Core.Logic.{_⊎_, inl, inr}
 use mathlib.Core.Bool.{Bool, true, false, not, cond}
@@ -7,30 +7,29 @@ use mathlib.Core.List.{List, [], _∷_, map}
 use native.Mathlib.Nat.{mul-comm, mul-assoc, mul-le-mul-right, div-add-mod', mod-lt}
 use native.Mathlib.Omega.{arith}
 use lib.Dec.{eqb}
-use lib.ListN.{length}
 use borrow.Author.Tests.{not-true}
 use Rattle.runs.specs.Laws.Tests.{lt-or-ge}
-use Rattle.runs.specs.Runs.{Run, run, Steps, In, Mem, From, Canon, Lists, runs}
-use Rattle.runs.specs.Laws.Runs.{mem-ge, lists-runs}
+use Rattle.runs.specs.Runs.{Run, run, Steps, In, Mem, From, Lists, runs}
+use Rattle.runs.specs.Laws.Runs.{lists-runs}
 use Rattle.runs.specs.Intervals.{Interval, Apart, Multiple, OnGrid, intervals as maximal-runs}
 use Rattle.runs.specs.Laws.Intervals.{intervals-free}
 use Rattle.runs.specs.Meet.{Lcm}
-use Rattle.runs.specs.Laws.Both.{from-weaken, from-least, count-above, Spaced, Meeting}
-use Rattle.model.specs.Limits.{reach, max-rows, max-intervals}
-use Rattle.model.specs.Bounded.{any-below, all-below}
+use Rattle.runs.specs.Laws.Both.{from-weaken, from-least, Spaced, Meeting}
+use Rattle.model.specs.Limits.{reach, max-rows}
+use Rattle.model.specs.Bounded.{any-below}
 use Rattle.model.specs.Columns.{Device, half-rows, height, kind-C, columns, kind, cells}
-use Rattle.model.specs.Tasks.{Block, blocks, block, step, well-formed}
+use Rattle.model.specs.Tasks.{blocks, block, step, well-formed}
 use Rattle.model.specs.Book.{Book, free, block-fits, fits, intervals, cell-free}
 use Rattle.model.specs.Sound.{within}
 use Rattle.model.specs.Laws.Bounded.{any-to, any-of-one, is-false, clash, all-to, all-of}
-use Rattle.model.specs.Laws.Columns.{height-two, height-pos}
-use Rattle.model.specs.Laws.Tasks.{Solid, solid-block, first-block}
+use Rattle.model.specs.Laws.Columns.{height-pos}
+use Rattle.model.specs.Laws.Tasks.{solid-block, first-block}
 use Rattle.model.specs.Laws.Fits.{fitting-to, fits-to, fits-below}
 use Rattle.model.specs.Laws.Steps.{fits-steps, step-two}
-use Rattle.model.specs.Laws.Limits.{Limits, limits-to}
+use Rattle.model.specs.Laws.Limits.{limits-to}
 use Rattle.model.specs.Laws.Cells.{scaled, intervals-cells}
-use Rattle.listing.specs.Bottoms.{lift, lowered, bottoms, Stand, Common, Listed}
-use Rattle.listing.specs.Laws.Bottoms.{multiple-sub, multiple-mod, Stood, bottoms-to, bottoms-of, whole-cells, fits-stood, stood-fits}
+use Rattle.listing.specs.Bottoms.{lift, lowered, bottoms, Stand, Common, Standing}
+use Rattle.listing.specs.Laws.Bottoms.{multiple-sub, multiple-mod, bottoms-to, bottoms-of, whole-cells, fits-stood, stood-fits}
 
 -- ---- the intervals of a column
 
@@ -164,7 +163,7 @@ module _ (d : Device) (b : Book) (t : List ℕ) (p : ℕ) where
           let (j, q) = multiple-sub (height (block t 0 .kind)) (y - lift) (x - lift) (v .grid) (u .grid) (omega arith) in
           rw n (j, omega arith)
 
-  module _ (k s : ℕ) (L : List Run) (g : Listed d b t p k s L) where
+  module _ (k s : ℕ) (L : List Run) (g : Standing d b t p k s L) where
     -- so in steps of what is listed
     pub listed-spaced : Spaced s L
     listed-spaced x y m n l =
@@ -177,7 +176,7 @@ module _ (d : Device) (b : Book) (t : List ℕ) (p : ℕ) where
     listed-step n l = (g .common .pos, omega (arith, common-le t (max 1 k) s n (omega arith) (g .common), step-ten t))
 
   -- no block met: the lifted half rows on the grid of the first block
-  pub listed-start : (h : ℕ) → h ≡ height (block t 0 .kind) → Listed d b t p 0 h (run lift (lift + (2 * max-rows - 1) / h * h) ∷ [])
+  pub listed-start : (h : ℕ) → h ≡ height (block t 0 .kind) → Standing d b t p 0 h (run lift (lift + (2 * max-rows - 1) / h * h) ∷ [])
   listed-start h e =
       let pos : 1 ≤ h = omega (arith, height-pos (block t 0 .kind)) in
       record {
@@ -222,8 +221,8 @@ module _ (d : Device) (b : Book) (t : List ℕ) (p : ℕ) where
         (intervals d b (p + block t k .column)) (column-apart d b (p + block t k .column)) grid-here
         (rw x at (fits-stood d b (block t k) z p on same (y - lift) q))
 
-    pub listed-next : (s n : ℕ) (L O : List Run) → Listed d b t p k s L → Lcm s (height (block t k .kind)) n
-        → Meeting s (height (block t k .kind)) n L (bottoms (block t k .low) (block t k .high) (intervals d b (p + block t k .column))) O → Listed d b t p (suc k) n O
+    pub listed-next : (s n : ℕ) (L O : List Run) → Standing d b t p k s L → Lcm s (height (block t k .kind)) n
+        → Meeting s (height (block t k .kind)) n L (bottoms (block t k .low) (block t k .high) (intervals d b (p + block t k .column))) O → Standing d b t p (suc k) n O
     listed-next s n L O g c m = record {
       common = let e : max 1 (suc k) ≡ suc k = omega arith in rw e (common-next t k s n (g .common) c);
       canon = m .canon;
@@ -271,7 +270,7 @@ module _ (d : Device) (b : Book) (t : List ℕ) (p : ℕ) (w : within d b ≡ tr
       }
 
   -- THEOREM: the bottoms of all blocks, lowered, are the task's ranges in the column
-  pub listed-all : (k s : ℕ) (L : List Run) → k ≡ blocks t → Listed d b t p k s L → map lowered L ≡ runs (step t) (fits d b t p) (half-rows d)
+  pub listed-all : (k s : ℕ) (L : List Run) → k ≡ blocks t → Standing d b t p k s L → map lowered L ≡ runs (step t) (fits d b t p) (half-rows d)
   listed-all k s L q g =
       let m : max 1 k ≡ blocks t = omega arith in
       let e : s ≡ step t = common-unique t (blocks t) s (step t) (rw m at (g .common)) (common-step t n) in

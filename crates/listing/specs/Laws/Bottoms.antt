@@ -1,24 +1,24 @@
 -- The bottoms of one block: a block fits just where an interval of its column holds it and it stands on its grid; so its list of ranges, made from the
 -- column's intervals, is canonical and names exactly the bottoms at which it fits. Assumes nothing.
 use Prim.Native.Nat.{ℕ, zero, suc, _+_, _-_, _*_, _/_, _%_, _≤_, _<_}
-use mathlib.Core.Path.{_≡_, refl, sym, ap, _∙_}
+use mathlib.Core.Path.{_≡_, refl, ap, _∙_}
 use mathlib.Core.Logic.{_⊎_, inl, inr, _↔_}
-use mathlib.Core.Bool.{true, cond}
+use mathlib.Core.Bool.{true}
 use mathlib.Core.List.{List, [], _∷_}
 use native.Mathlib.Nat.{mul-le-mul-right, lt-of-mul-lt-mul-right, div-add-mod', mul-mod-left}
 use native.Mathlib.Omega.{arith}
 use lib.Dec.{ltb}
 use borrow.Author.Tests.{lt-ltb, le-ltb}
 use Rattle.runs.specs.Laws.Tests.{tests, cond-ind, lt-or-ge}
-use Rattle.runs.specs.Runs.{Run, run, Steps, In, Mem, From, Canon}
-use Rattle.runs.specs.Intervals.{Interval, Named, Apart, Free, Holds, Multiple, OnGrid}
+use Rattle.runs.specs.Runs.{Steps, In, Mem, From}
+use Rattle.runs.specs.Intervals.{Interval, Apart, Holds, Multiple, OnGrid}
 use Rattle.runs.specs.Laws.Intervals.{holds-of, holds-free, intervals-free}
 use Rattle.runs.specs.Laws.Both.{from-weaken, Spaced}
 use Rattle.model.specs.Limits.{reach}
 use Rattle.model.specs.Columns.{Device, height, columns, kind, top}
 use Rattle.model.specs.Tasks.{Block}
 use Rattle.model.specs.Book.{Book, free, block-fits, intervals}
-use Rattle.model.specs.Laws.Fits.{Fitting, fitting-to, fitting-of}
+use Rattle.model.specs.Laws.Fits.{fitting-to, fitting-of}
 use Rattle.model.specs.Laws.Tasks.{Solid}
 use Rattle.listing.specs.Bottoms.{lift, bottoms-in, bottoms}
 

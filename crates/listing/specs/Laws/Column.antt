@@ -1,8 +1,8 @@
 -- A task in one column of a sound record: what the walks need of the record, and the model's ranges at the end. Assumes nothing.
-use Prim.Native.Nat.{ℕ, zero, suc, _+_, _-_, _*_, _/_, _≤_, _<_, max}
+use Prim.Native.Nat.{ℕ, zero, suc, _+_, _-_, _*_, _/_, _≤_, _<_}
 use mathlib.Core.Path.{_≡_, refl, sym, ap, subst, _∙_}
 use mathlib.Core.Bool.{Bool, true, false, true≢false, false≢true}
-use mathlib.Core.List.{List, [], _∷_, map}
+use mathlib.Core.List.{List, map}
 use native.Mathlib.Omega.{arith}
 use native.Mathlib.Numerals.{add-one}
 use lib.Dec.{eqb}
@@ -10,14 +10,12 @@ use borrow.Author.Tests.{eqb-true, eqb-false}
 use lib.ListN.{length, getD, set}
 use lib.Seq.{getD-set-same}
 use native.Mathlib.Nat.{div-add-mod'}
-use Rattle.runs.specs.Laws.Tests.{lt-or-ge}
-use Rattle.runs.specs.Runs.{Run, Mem}
-use Rattle.runs.specs.Intervals.{Interval, interval, Apart, OnGrid, Multiple}
+use Rattle.runs.specs.Runs.{Run, run, Mem}
+use Rattle.runs.specs.Intervals.{Interval, interval, Multiple}
 use Rattle.runs.specs.Meet.{Step, Lcm}
-use Rattle.runs.specs.Laws.Both.{Meeting}
 use Rattle.model.specs.Laws.Bounded.{last-or}
 use Rattle.model.specs.Kinds.{number-of}
-use Rattle.model.specs.Limits.{block-size, max-blocks, max-kind, max-columns, max-intervals, max-rows, columns-at, kinds-at}
+use Rattle.model.specs.Limits.{block-size, max-blocks, max-kind, max-columns, max-rows, columns-at, kinds-at}
 use Rattle.model.specs.Columns.{columns, kind, height}
 use Rattle.model.specs.Tasks.{blocks, block}
 use Rattle.model.specs.Tasks as model
@@ -25,7 +23,7 @@ use Rattle.model.specs.Book.{intervals}
 use Rattle.model.specs.Record.{device-of, book-of, listed-intervals}
 use Rattle.model.specs.Sound.{sound, count-of}
 use Rattle.model.specs.Laws.Columns.{height-two, top-le}
-use Rattle.model.specs.Laws.Tasks.{Sized, sized-to, Solid, solid-block}
+use Rattle.model.specs.Laws.Tasks.{sized-to, solid-block}
 use Rattle.model.specs.Laws.Limits.{limits-to}
 use Rattle.model.specs.Laws.Cells.{interval-ends}
 use Rattle.model.specs.Laws.Parts.{getD-list}
@@ -35,12 +33,12 @@ use Rattle.model.specs.Laws.Sound.{columns-said, listed-said, sound-length, sou
 use Rattle.task.specs.Blocks.{seen, Same}
 use Rattle.task.specs.Laws.{same-seen, block-within}
 use Rattle.task.specs.declared.Block.{Block}
-use Rattle.listing.specs.Bottoms.{lift, lowered, bottoms, Common, Listed}
+use Rattle.listing.specs.Bottoms.{lift, lowered, Standing}
 use Rattle.listing.specs.Arrays.{max-runs, read, Room, Lowerable, bottom-at, top-at, Meetable, Met}
-use Rattle.listing.specs.Columns.{Given, OfKind, On, OnAll, Liftable, Startable, Started, LiftedTo, Nextable, Lifted, column-runs, Ranged}
+use Rattle.listing.specs.Columns.{Given, OfKind, On, OnAll, Startable, Started, LiftedTo, Nextable, Lifted, column-runs, Ranged}
 use Rattle.listing.specs.Laws.Bottoms.{whole-cells}
 use Rattle.listing.specs.Laws.Blocks.{column-apart, column-grid, listed-spaced, listed-bound, listed-step, listed-start, listed-next, listed-all, none-stand}
-use Rattle.listing.specs.Laws.Arrays.{length-read, ends-named, few-runs}
+use Rattle.listing.specs.Laws.Arrays.{length-read, getD-read, ends-named, few-runs}
 use Rattle.listing.specs.Laws.Walk.{height-small, count-listed, listed-at}
 
 -- ---- the device columns
@@ -48,6 +46,9 @@ use Rattle.listing.specs.Laws.Walk.{height-small, count-listed, listed-a
 module _ (r : List ℕ) (s : sound r ≡ true) where
   pub few-columns : columns (device-of r) ≤ max-columns
   few-columns = limits-to (device-of r) (book-of r) (sound-within r s) .columns
+
+  pub some-columns : 1 ≤ columns (device-of r)
+  some-columns = limits-to (device-of r) (book-of r) (sound-within r s) .columns-one
 
   kind-here : (c : ℕ) → c < columns (device-of r) → kind (device-of r) c ≡ getD r (kinds-at + c) 0
   unfolding kind device-of
@@ -73,7 +74,7 @@ module _ (r : List ℕ) (s : sound r ≡ true) where
 -- ---- the blocks of the task
 
 module _ (r t : List ℕ) (g : Given r t) where
-  some-blocks : 1 ≤ blocks t
+  pub some-blocks : 1 ≤ blocks t
   some-blocks = sized-to t (g .sized) .some-blocks
 
   pub few-blocks : blocks t ≤ max-blocks
@@ -119,7 +120,7 @@ start-lifted r t F T p n s g = record { few = omega (arith, g .count-is); listed
 -- ---- one block more
 
 -- in steps of 2 or more there are few runs
-few-listed : (r t : List ℕ) (p k s n : ℕ) (F T : List ℕ) → Listed (device-of r) (book-of r) t p k s (read n F T) → n ≤ max-runs
+few-listed : (r t : List ℕ) (p k s n : ℕ) (F T : List ℕ) → Standing (device-of r) (book-of r) t p k s (read n F T) → n ≤ max-runs
 few-listed r t p k s n F T g = omega (arith, length-read n F T, few-runs s (read n F T) (two (g .common .all 0 (omega arith))) (g .canon) (listed-bound (device-of r) (book-of r) t p k s (read n F T) g))
   where
     two : Multiple (height (block t 0 .kind)) s → 2 ≤ s
@@ -225,3 +226,11 @@ unfolding read
 ranged-none r t p F T q x o e =
     let (k, l, h) = o .none e in
     record { few = omega arith; runs = none-stand (device-of r) (book-of r) t p (sound-within r (x .sound)) (x .formed) (some-blocks r t x) k l (λ a b. h (a, b)) }
+
+-- ---- what a caller reads: as many runs as the model lists, and each of them
+
+pub ranged-count : (r t : List ℕ) (p : ℕ) (F T : List ℕ) (n : ℕ) → Ranged r t p F T n → n ≡ length (column-runs r t p)
+ranged-count r t p F T n x = sym (length-read n F T) ∙ ap length (x .runs)
+
+pub ranged-at : (r t : List ℕ) (p : ℕ) (F T : List ℕ) (n i : ℕ) (d : Run) → Ranged r t p F T n → i < n → getD (column-runs r t p) i d ≡ run (getD F i 0) (getD T i 0)
+ranged-at r t p F T n i d x l = sym (ap (λ (L : List Run). getD L i d) (x .runs)) ∙ getD-read n i F T d l

@@ -1,8 +1,8 @@
 -- The walk of one block along a list of lifted bottoms, in the code's shape: run i of the list against interval j of the block's column. Assumes nothing.
-use Prim.Native.Nat.{ℕ, zero, suc, _+_, _-_, _*_, _≤_, _<_}
-use mathlib.Core.Path.{_≡_, refl, sym, ap, ap₂, _∙_}
+use Prim.Native.Nat.{ℕ, zero, suc, _+_, _-_, _≤_, _<_}
+use mathlib.Core.Path.{_≡_, refl, ap, _∙_}
 use mathlib.Core.Logic.{_⊎_, inl, inr}
-use mathlib.Core.List.{List, [], _∷_, _++_}
+use mathlib.Core.List.{List, [], _∷_}
 use native.Mathlib.Omega.{arith}
 use native.Mathlib.Nat.{mul-le-mul}
 use native.Mathlib.Numerals.{add-one}
@@ -10,22 +10,21 @@ use lib.Dec.{eqb}
 use lib.ListN.{length, getD, drop}
 use lib.Seq.{drop-cons}
 use Rattle.runs.specs.Laws.Tests.{cond-ind}
-use Rattle.runs.specs.Runs.{Run, run, Steps, In, Mem, From, Canon, push, Lists}
+use Rattle.runs.specs.Runs.{Run, run, Mem, push}
 use Rattle.runs.specs.Intervals.{Interval, interval, Multiple, OnGrid}
-use Rattle.runs.specs.Meet.{Step, Proper, Lcm, Both-of, Meets}
+use Rattle.runs.specs.Meet.{Proper, Lcm, Both-of}
 use Rattle.runs.specs.Laws.Runs.{InStep}
 use Rattle.runs.specs.Laws.Both.{from-weaken, Walk, Put, both?, both-steps, lcm-unique, written-met, pass-left, pass-right, walk-start, walk-done, written-of}
 use Rattle.runs.specs.declared.Range.{Range}
-use Rattle.model.specs.Limits.{words, max-rows, interval-size, reach}
+use Rattle.model.specs.Limits.{reach}
 use Rattle.model.specs.Columns.{height, kind-C}
-use Rattle.model.specs.Tasks.{word}
 use Rattle.model.specs.Tasks as model
-use Rattle.model.specs.Record.{column-at, listed-intervals}
+use Rattle.model.specs.Record.{listed-intervals}
 use Rattle.model.specs.Sound.{count-of}
 use Rattle.model.specs.Laws.Columns.{height-two}
 use Rattle.model.specs.Laws.Parts.{length-list, getD-list}
 use Rattle.listing.specs.Bottoms.{lift, bottoms-in, range-in, bottoms}
-use Rattle.listing.specs.Arrays.{max-runs, read, Room, Pushable, Puttable, Joined, bottom-at, top-at, Meetable, Met}
+use Rattle.listing.specs.Arrays.{read, Room, Pushable, Puttable, Joined, bottom-at, top-at, Meetable, Met}
 use Rattle.listing.specs.Laws.Bottoms.{multiple-sub, bottoms-none, bottoms-short, bottoms-tall, bottoms-from, bottoms-spaced}
 use Rattle.listing.specs.Laws.Arrays.{length-read, drop-read, drop-all, steps-at, ends-named, few-runs}
 

@@ -1,15 +1,14 @@
 -- The walk along two lists of runs that lists what both name: always the two current runs are met, and the one that ends first is passed.
 -- It holds for any two steps. Assumes nothing.
-use mathlib.Core.Path.{_≡_, refl, sym, ap, _∙_}
+use mathlib.Core.Path.{_≡_, refl}
 use mathlib.Core.Logic.{_⊎_, inl, inr, _↔_}
-use mathlib.Core.Bool.{Bool, true, false, _&&_, true≢false, and-eq-true-iff}
+use mathlib.Core.Bool.{Bool, true, false, _&&_, and-eq-true-iff}
 use mathlib.Core.List.{List, [], _∷_}
 use Prim.Native.Nat.{ℕ, zero, suc, _+_, _-_, _*_, _≤_, _<_, min, max}
-use native.Mathlib.Nat.{mul-le-mul-right}
 use native.Mathlib.Omega.{arith}
 use lib.ListN.{length}
 use Rattle.runs.specs.Laws.Tests.{lt-or-ge}
-use Rattle.runs.specs.Runs.{Run, run, Steps, In, Mem, From, Canon, push, mem, Lists}
+use Rattle.runs.specs.Runs.{Run, Steps, In, Mem, From, Canon, push, mem, Lists}
 use Rattle.runs.specs.Laws.Runs.{mem-ge, InStep, skip-lists, push-lists, mem-true, mem-test}
 use Rattle.runs.specs.Intervals.{Multiple}
 use Rattle.runs.specs.Meet.{Lcm}

@@ -1,0 +1,49 @@
+-- The bytes of a listing, and what `list` answers. Assumes nothing.
+use Prim.Native.Nat.{ℕ, _+_, _*_, _≤_, _<_}
+use mathlib.Core.Path.{_≡_}
+use mathlib.Core.Bool.{true, false}
+use mathlib.Core.List.{List, map}
+use lib.ListN.{length, getD}
+use Rattle.runs.specs.Runs.{Run}
+use Rattle.model.specs.Limits.{words, range-size}
+use Rattle.model.specs.Bounded.{join-in, join-below}
+use Rattle.model.specs.Columns.{Device}
+use Rattle.model.specs.Tasks.{step}
+use Rattle.model.specs.Book.{Book}
+use Rattle.model.specs.Listing.{Range, range-of, ranges}
+use Rattle.model.specs.Calls.{range-bytes, over, no-position}
+use Rattle.listing.specs.Arrays.{max-runs, Room}
+use Rattle.listing.specs.Columns.{column-runs}
+use Rattle.listing.specs.declared.Listed.{Listed}
+use Rattle.listing.specs.declared.Listed.the-variants.{Ranges, NoPosition}
+
+-- a range fits its bytes, and has room as number n of an output of that size
+pub record Writable (size n column step first last : ℕ) : Type 0 where
+  pub room : range-size * n + range-size ≤ size
+  pub column-fits : column < 256
+  pub step-fits : step < 256
+  pub first-fits : first < words
+  pub last-fits : last < words
+
+-- the first k runs of the arrays, as numbers n and up
+pub record AllWritable (size n column step : ℕ) (firsts lasts : List ℕ) (k : ℕ) : Type 0 where
+  pub arrays : Room firsts lasts
+  pub count : k ≤ max-runs
+  pub room : range-size * (n + k) ≤ size
+  pub column-fits : column < 256
+  pub step-fits : step < 256
+  pub fits : (i : ℕ) → i < k → (getD firsts i 0 < words) × (getD lasts i 0 < words)
+
+-- the bytes of the ranges of a column
+abbrev pub column-bytes : ℕ → ℕ → List Run → List ℕ
+column-bytes p s L = join-in range-bytes (map (range-of p s) L)
+
+-- the ranges of the columns below p
+abbrev pub ranges-below : List ℕ → List ℕ → ℕ → List Range
+ranges-below r t p = join-below p (λ q. map (range-of q (step t)) (column-runs r t q))
+
+-- what `list` answers, and its output before and after: "The answer is their number; bytes after them stay." "−9: no position fits"
+abbrev pub Answers : Listed → Device → Book → List ℕ → List ℕ → List ℕ → Type 0
+Answers (Ranges n) d b t o o′ =
+    (n ≡ length (ranges d b t)) × (o′ ≡ over (join-in range-bytes (ranges d b t)) o) × (no-position d b t ≡ false) × (1 ≤ n)
+Answers NoPosition d b t o o′ = (no-position d b t ≡ true) × (o′ ≡ o)

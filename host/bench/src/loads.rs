@@ -1,0 +1,148 @@
+//! The cards that calls are measured on, each made by a history of calls from a fixed seed.
+
+use calls::Calls;
+use oracle::arbitrary::fitting_task;
+use oracle::layout::RECORD_BYTES;
+use oracle::rng::Rng;
+use oracle::task::{bytes_of, Block};
+use oracle::{Device, Kind};
+
+/// The number that measured placements use: odd, and amid the even ones of the loads, so that entries are moved.
+pub const PROBE_NUMBER: u32 = 30_001;
+
+/// A card to measure on.
+pub struct Load {
+    /// What stands in the table.
+    pub name: String,
+    /// Its rows.
+    pub rows: u32,
+    /// Its kinds.
+    pub kinds: Vec<u8>,
+    /// Its record.
+    pub record: Vec<u8>,
+}
+
+/// A task to ask for.
+pub struct Probe {
+    /// What stands in the table.
+    pub name: String,
+    /// Its bytes.
+    pub task: Vec<u8>,
+}
+
+/// The kinds of a card of 64 columns: in each eight, six of logic, one of memory, one of multipliers.
+pub fn kinds() -> Vec<u8> {
+    [0, 0, 0, 1, 0, 0, 0, 2].repeat(8)
+}
+
+/// The blocks of a task from column, kind, bottom and top.
+fn task(blocks: &[(u8, Kind, i16, i16)]) -> Vec<u8> {
+    let block = |&(column, kind, bottom, top): &(u8, Kind, i16, i16)| Block {
+        column,
+        kind,
+        bottom,
+        top,
+    };
+    let blocks: Vec<Block> = blocks.iter().map(block).collect();
+    bytes_of(&blocks)
+}
+
+/// Five blocks of logic and memory, as a usual circuit has them.
+pub fn mixed_probe() -> Probe {
+    let blocks = [
+        (0, Kind::C, 0, 4),
+        (0, Kind::C, 8, 10),
+        (1, Kind::C, -2, 6),
+        (2, Kind::C, 0, 8),
+        (3, Kind::B, 0, 5),
+    ];
+    Probe {
+        name: "5 blocks".to_string(),
+        task: task(&blocks),
+    }
+}
+
+/// A comb: so many blocks of one cell in one column, one cell apart.
+pub fn comb(teeth: i16) -> Vec<u8> {
+    let tooth = |index| (0, Kind::C, 4 * index, 4 * index + 2);
+    let blocks: Vec<_> = (0..teeth).map(tooth).collect();
+    task(&blocks)
+}
+
+/// A comb of 16 blocks, which fits between the blocks of others.
+pub fn comb_probe() -> Probe {
+    Probe {
+        name: "comb of 16".to_string(),
+        task: comb(16),
+    }
+}
+
+/// A task of so many blocks, one in each of the columns from the left, in their kinds.
+pub fn wide_probe(blocks: usize) -> Probe {
+    let of_column = |(column, &kind): (usize, &u8)| {
+        let kind = Kind::ALL[usize::from(kind)];
+        (column as u8, kind, 0, 2 * kind.height() as i16)
+    };
+    let all: Vec<_> = kinds().iter().enumerate().map(of_column).collect();
+    Probe {
+        name: format!("{blocks} blocks"),
+        task: task(&all[..blocks]),
+    }
+}
+
+/// A card without running tasks.
+pub fn empty(subject: &dyn Calls, rows: u32) -> Load {
+    let kinds = kinds();
+    let mut record = vec![0; RECORD_BYTES];
+    assert_eq!(subject.new(&mut record, rows, &kinds), 0);
+    Load {
+        name: format!("empty, {rows} rows"),
+        rows,
+        kinds,
+        record,
+    }
+}
+
+/// A card with so many tasks of five blocks, placed where choose says, after others came and went.
+pub fn busy(subject: &dyn Calls, tasks: usize) -> Load {
+    let mut load = empty(subject, 128);
+    load.name = format!("{tasks} tasks of 5 blocks");
+    let device = Device::new(128, &load.kinds).expect("the limits are kept");
+    let mut rng = Rng::new(2024);
+    let mut running = Vec::new();
+    let mut next = 0;
+    while running.len() < tasks {
+        let drawn = fitting_task(&mut rng, &device, 5).filter(|task| task.blocks().len() == 5);
+        let Some(task) = drawn else { continue };
+        let chosen = subject.choose(&load.record, task.bytes());
+        if chosen < 0 {
+            continue;
+        }
+        next += 1;
+        // Numbers all over the range, so that entries are not only appended.
+        let number = next * 40_503 % 32_768 * 2;
+        let (column, bottom) = ((chosen / 1024) as u32, chosen % 1024);
+        let placed = subject.place(&mut load.record, task.bytes(), number, column, bottom);
+        assert_eq!(placed, 0);
+        running.push(number);
+        if running.len() % 3 == 0 && next < 2 * tasks as u32 {
+            let number = running.swap_remove(rng.below(running.len()));
+            assert_eq!(subject.release(&mut load.record, number), 0);
+        }
+    }
+    load
+}
+
+/// A card with 63 combs of 32 blocks in 32 columns: with the measured one, as many tasks as can run.
+pub fn combs(subject: &dyn Calls) -> Load {
+    let mut load = empty(subject, 128);
+    load.name = "63 combs of 32 blocks".to_string();
+    let logic = (0..64).filter(|&column| load.kinds[column as usize] == 0);
+    let places = logic.flat_map(|column| [(column, 0), (column, 128)]);
+    for (index, (column, bottom)) in places.take(63).enumerate() {
+        let number = 1000 * (index as u32 + 1);
+        let placed = subject.place(&mut load.record, &comb(32), number, column, bottom);
+        assert_eq!(placed, 0);
+    }
+    load
+}

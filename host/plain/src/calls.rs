@@ -1,0 +1,173 @@
+//! The calls: the refusals in the table's order, then the work.
+
+use crate::choice;
+use crate::layout::*;
+use crate::listing::Search;
+use crate::record::{self, Place};
+use crate::task::{is_sized, Task};
+
+/// The numbers of document 01's table.
+mod refusal {
+    pub const RECORD_LENGTH: i32 = -1;
+    pub const RECORD_NOT_SOUND: i32 = -2;
+    pub const DEVICE_OR_COLUMN: i32 = -3;
+    pub const TASK_LENGTH: i32 = -4;
+    pub const TASK_NOT_WELL_FORMED: i32 = -5;
+    pub const OUTPUT_SHORT: i32 = -6;
+    pub const BAD_NUMBER: i32 = -7;
+    pub const FULL: i32 = -8;
+    pub const NO_POSITION: i32 = -9;
+    pub const MISFIT: i32 = -10;
+    pub const NOT_RUNNING: i32 = -11;
+}
+
+/// What a call gives, or its refusal's number.
+type Answer = Result<i32, i32>;
+
+/// The answer of a call as one number.
+fn number_of(answer: Answer) -> i32 {
+    answer.unwrap_or_else(|refusal| refusal)
+}
+
+/// The bytes as a sound record, or −1 or −2. It is the first test of every call but new.
+pub fn checked(bytes: &[u8]) -> Result<&Record, i32> {
+    let record: &Record = bytes.try_into().map_err(|_| refusal::RECORD_LENGTH)?;
+    if record::is_sound(record) {
+        Ok(record)
+    } else {
+        Err(refusal::RECORD_NOT_SOUND)
+    }
+}
+
+/// The same of bytes that may be written.
+fn checked_mut(bytes: &mut [u8]) -> Result<&mut Record, i32> {
+    checked(bytes)?;
+    bytes.try_into().map_err(|_| refusal::RECORD_LENGTH)
+}
+
+/// A task from its bytes, or −4 or −5.
+pub fn task(bytes: &[u8]) -> Result<Task, i32> {
+    if !is_sized(bytes) {
+        return Err(refusal::TASK_LENGTH);
+    }
+    Task::read(bytes).ok_or(refusal::TASK_NOT_WELL_FORMED)
+}
+
+/// New: writes the record with all cells free. Answers 0, −1 or −3.
+pub fn new(record: &mut [u8], rows: u32, kinds: &[u8]) -> i32 {
+    let Ok(record) = <&mut Record>::try_from(record) else {
+        return refusal::RECORD_LENGTH;
+    };
+    if !record::is_device(rows, kinds) {
+        return refusal::DEVICE_OR_COLUMN;
+    }
+    record.fill(0);
+    record::write_device(record, rows, kinds);
+    0
+}
+
+/// Place: enters the task as running. Answers 0, −1, −2, −4, −5, −7, −8 or −10.
+pub fn place(record: &mut [u8], task: &[u8], number: u32, column: u32, bottom: i32) -> i32 {
+    number_of(try_place(record, task, number, column, bottom))
+}
+
+fn try_place(record: &mut [u8], bytes: &[u8], number: u32, column: u32, bottom: i32) -> Answer {
+    let record = checked_mut(record)?;
+    let task = task(bytes)?;
+    if !(1..=MAX_NUMBER).contains(&number) {
+        return Err(refusal::BAD_NUMBER);
+    }
+    let Err(index) = record::find(record, number) else {
+        return Err(refusal::BAD_NUMBER);
+    };
+    if record::running(record) == MAX_RUNNING {
+        return Err(refusal::FULL);
+    }
+    if !record::fits(record, &task, column, bottom) {
+        return Err(refusal::MISFIT);
+    }
+    let at = Place {
+        number,
+        column: column as usize,
+        bottom: bottom as u32,
+    };
+    record::enter(record, index, at, &task, bytes);
+    Ok(0)
+}
+
+/// Release: frees the task's cells and removes its entry. Answers 0, −1, −2 or −11.
+pub fn release(record: &mut [u8], number: u32) -> i32 {
+    number_of(try_release(record, number))
+}
+
+fn try_release(record: &mut [u8], number: u32) -> Answer {
+    let record = checked_mut(record)?;
+    let index = record::find(record, number).map_err(|_| refusal::NOT_RUNNING)?;
+    record::leave(record, index);
+    Ok(0)
+}
+
+/// List: writes the ranges and answers their number, or −1, −2, −4, −5, −6 or −9.
+pub fn list(record: &[u8], task: &[u8], output: &mut [u8]) -> i32 {
+    let listed = checked(record).and_then(|record| search_list(record, task, output));
+    number_of(listed)
+}
+
+/// Choose: answers column × 1,024 + bottom, or −1, −2, −4, −5 or −9.
+pub fn choose(record: &[u8], task: &[u8]) -> i32 {
+    let chosen = checked(record).and_then(|record| search_choose(record, task));
+    number_of(chosen)
+}
+
+/// List on a record that is known to be sound: the search alone, for measurements.
+pub fn search_list(record: &Record, bytes: &[u8], output: &mut [u8]) -> Answer {
+    let task = task(bytes)?;
+    if output.len() < LIST_ROOM {
+        return Err(refusal::OUTPUT_SHORT);
+    }
+    let mut search = Search::START;
+    let mut room = output.chunks_exact_mut(RANGE_SIZE);
+    let mut count = 0;
+    for column in 0..record::columns(record) {
+        let ranges = search.column(record, &task, column);
+        for (span, range) in ranges.spans().iter().zip(&mut room) {
+            range[0] = column as u8;
+            range[1] = ranges.step as u8;
+            put_word(range, 2, span.first as u32);
+            put_word(range, 4, span.last as u32);
+        }
+        count += ranges.spans().len();
+    }
+    match count {
+        0 => Err(refusal::NO_POSITION),
+        _ => Ok(count as i32),
+    }
+}
+
+/// Choose on a record that is known to be sound: the search alone, for measurements.
+pub fn search_choose(record: &Record, bytes: &[u8]) -> Answer {
+    let task = task(bytes)?;
+    let (column, bottom) = choice::choose(record, &task).ok_or(refusal::NO_POSITION)?;
+    Ok(COLUMN_WEIGHT * column as i32 + bottom)
+}
+
+/// Interval count: answers how many intervals a column has, or −1, −2 or −3.
+pub fn interval_count(record: &[u8], column: u32) -> i32 {
+    let counted = counted(record, column).map(|part| part.len() / INTERVAL_SIZE);
+    number_of(counted.map(|count| count as i32))
+}
+
+/// The view: a column's intervals as a part of the record, empty where interval count refuses.
+pub fn intervals(record: &[u8], column: u32) -> &[u8] {
+    counted(record, column).unwrap_or(&[])
+}
+
+/// A column's intervals in use, or the refusal of both interval calls.
+fn counted(bytes: &[u8], column: u32) -> Result<&[u8], i32> {
+    let record = checked(bytes)?;
+    if column as usize >= record::columns(record) {
+        return Err(refusal::DEVICE_OR_COLUMN);
+    }
+    let column = column as usize;
+    Ok(&record::part(record, column)[..INTERVAL_SIZE * record::count(record, column)])
+}

@@ -1,0 +1,22 @@
+//! The calls of document 01 in plain Rust, **unverified**.
+//!
+//! It has the algorithms and the checks of the proved library, written as an
+//! engineer writes them who need not prove anything. Its use is to measure the
+//! proved library against it, and to try out the tests and the benchmark.
+//!
+//! Where to find what: [`layout`] the constants, [`column`](mod@column) intervals cut and
+//! joined, [`task`](mod@task) blocks, [`record`] the record and its check,
+//! [`listing`] and [`choice`] the searches, [`calls`] the calls themselves.
+
+#![deny(missing_docs)]
+#![forbid(unsafe_code)]
+
+pub mod calls;
+pub mod choice;
+pub mod column;
+pub mod layout;
+pub mod listing;
+pub mod record;
+pub mod task;
+
+pub use calls::{choose, interval_count, intervals, list, new, place, release};

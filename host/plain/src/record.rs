@@ -1,0 +1,210 @@
+//! The record as a whole: an empty one, entering and leaving, and whether one is sound.
+
+use crate::column::{cut, holder, intervals, join, Interval, Part};
+use crate::layout::*;
+use crate::task::Task;
+
+/// How many columns the device has.
+pub fn columns(record: &Record) -> usize {
+    usize::from(record[COLUMNS_AT])
+}
+
+/// How many tasks run.
+pub fn running(record: &Record) -> usize {
+    usize::from(record[RUNNING_AT])
+}
+
+/// The kind of a column.
+pub fn kind(record: &Record, column: usize) -> u8 {
+    record[KINDS_AT + column]
+}
+
+/// How many intervals a column has.
+pub fn count(record: &Record, column: usize) -> usize {
+    usize::from(record[COUNTS_AT + column])
+}
+
+/// A column's part.
+pub fn part(record: &Record, column: usize) -> &Part {
+    let bytes = &record[part_range(column)];
+    bytes.try_into().expect("a part has 256 bytes")
+}
+
+/// A column's intervals, upwards.
+pub fn column_intervals(record: &Record, column: usize) -> impl Iterator<Item = Interval> + '_ {
+    intervals(part(record, column), count(record, column))
+}
+
+/// The interval of a column that holds all half rows from low to high.
+pub fn column_holder(record: &Record, column: usize, low: u32, high: u32) -> Option<Interval> {
+    holder(part(record, column), count(record, column), low, high)
+}
+
+/// Changes a column's intervals by a routine that answers their new count.
+fn change(record: &mut Record, column: usize, with: impl FnOnce(&mut Part, usize) -> usize) {
+    let count = count(record, column);
+    let bytes = &mut record[part_range(column)];
+    let part = bytes.try_into().expect("a part has 256 bytes");
+    record[COUNTS_AT + column] = with(part, count) as u8;
+}
+
+/// Writes a device with all cells free into a record of zeros.
+pub fn write_device(zeros: &mut Record, rows: u32, kinds: &[u8]) {
+    put_word(zeros, 0, rows);
+    zeros[COLUMNS_AT] = kinds.len() as u8;
+    zeros[KINDS_AT..KINDS_AT + kinds.len()].copy_from_slice(kinds);
+    for (column, &kind) in kinds.iter().enumerate() {
+        // A low card may have a column without a cell, and so without an interval.
+        let top = top(kind, rows);
+        zeros[COUNTS_AT + column] = u8::from(top > 0);
+        put_word(zeros, part_range(column).start + 2, top);
+    }
+}
+
+/// Whether rows and kinds are in their limits.
+pub fn is_device(rows: u32, kinds: &[u8]) -> bool {
+    (1..=MAX_ROWS).contains(&rows)
+        && (1..=MAX_COLUMNS).contains(&kinds.len())
+        && kinds.iter().all(|&kind| kind <= 2)
+}
+
+/// Whether every block stands in a column of its kind.
+pub fn kinds_match(record: &Record, task: &Task, column: usize) -> bool {
+    column + task.last_column() < columns(record)
+        && task
+            .blocks()
+            .iter()
+            .all(|block| kind(record, column + block.column()) == block.kind())
+}
+
+/// Whether the task fits at a position, whatever the numbers are.
+pub fn fits(record: &Record, task: &Task, column: u32, bottom: i32) -> bool {
+    // The first block stands at the position itself, so all other numbers are off the device.
+    if column >= MAX_COLUMNS as u32 || !(0..REACH).contains(&bottom) {
+        return false;
+    }
+    let column = column as usize;
+    kinds_match(record, task, column)
+        && task.blocks().iter().all(|block| {
+            let low = bottom + block.bottom();
+            let high = bottom + block.top();
+            low >= 0
+                && (low as u32).is_multiple_of(height(block.kind()))
+                && column_holder(record, column + block.column(), low as u32, high as u32).is_some()
+        })
+}
+
+/// The place of a number among the running entries: found, or where it would be.
+pub fn find(record: &Record, number: u32) -> Result<usize, usize> {
+    let entries = record[ENTRIES_AT..].chunks_exact(ENTRY_SIZE);
+    for (index, entry) in entries.take(running(record)).enumerate() {
+        let other = word(entry, 0);
+        if other >= number {
+            return if other == number {
+                Ok(index)
+            } else {
+                Err(index)
+            };
+        }
+    }
+    Err(running(record))
+}
+
+/// A position for an entry, within the device.
+#[derive(Clone, Copy)]
+pub struct Place {
+    /// The task's number.
+    pub number: u32,
+    /// The column.
+    pub column: usize,
+    /// The bottom.
+    pub bottom: u32,
+}
+
+/// Enters a task that fits, as the running entry of an index, and takes its cells.
+pub fn enter(record: &mut Record, index: usize, at: Place, task: &Task, bytes: &[u8]) {
+    let running = running(record);
+    if index < running {
+        let later = entry_range(index).start..entry_range(running).start;
+        record.copy_within(later, entry_range(index + 1).start);
+    }
+    let entry = &mut record[entry_range(index)];
+    put_word(entry, 0, at.number);
+    entry[2] = at.column as u8;
+    entry[3] = task.blocks().len() as u8;
+    put_word(entry, 4, at.bottom);
+    entry[BLOCKS_AT..BLOCKS_AT + bytes.len()].copy_from_slice(bytes);
+    entry[BLOCKS_AT + bytes.len()..].fill(0);
+    record[RUNNING_AT] += 1;
+    for block in task.blocks() {
+        let low = at.bottom.wrapping_add_signed(block.bottom());
+        change(record, at.column + block.column(), |part, count| {
+            cut(part, count, low, low + block.size())
+        });
+    }
+}
+
+/// Takes a running entry out and frees its cells.
+pub fn leave(record: &mut Record, index: usize) {
+    let entry = &record[entry_range(index)];
+    let bytes = BLOCK_SIZE * usize::from(entry[3]);
+    let column = usize::from(entry[2]);
+    let bottom = word(entry, 4);
+    // A sound record has well-formed tasks only, so none is never met.
+    let task = Task::read(&entry[BLOCKS_AT..BLOCKS_AT + bytes]);
+    for block in task.iter().flat_map(Task::blocks) {
+        let low = bottom.wrapping_add_signed(block.bottom());
+        change(record, column + block.column(), |part, count| {
+            join(part, count, low, low + block.size())
+        });
+    }
+    let last = running(record) - 1;
+    let later = entry_range(index + 1).start..entry_range(last).end;
+    record.copy_within(later, entry_range(index).start);
+    record[entry_range(last)].fill(0);
+    record[RUNNING_AT] -= 1;
+}
+
+/// Whether a record is sound: it equals one that is built anew from its device and tasks.
+pub fn is_sound(record: &Record) -> bool {
+    let rows = word(record, 0);
+    if columns(record) > MAX_COLUMNS || running(record) > MAX_RUNNING {
+        return false;
+    }
+    let kinds = &record[KINDS_AT..KINDS_AT + columns(record)];
+    if !is_device(rows, kinds) {
+        return false;
+    }
+    let mut scratch = [0; RECORD_SIZE];
+    write_device(&mut scratch, rows, kinds);
+    rebuild(record, &mut scratch) && scratch == *record
+}
+
+/// Enters the running tasks of a record into an empty one; answers whether each may be there.
+fn rebuild(record: &Record, scratch: &mut Record) -> bool {
+    let mut previous = 0;
+    for index in 0..running(record) {
+        let entry = &record[entry_range(index)];
+        let number = word(entry, 0);
+        let blocks = usize::from(entry[3]);
+        if number <= previous || !(1..=MAX_BLOCKS).contains(&blocks) {
+            return false;
+        }
+        previous = number;
+        let bytes = &entry[BLOCKS_AT..BLOCKS_AT + BLOCK_SIZE * blocks];
+        let Some(task) = Task::read(bytes) else {
+            return false;
+        };
+        let (column, bottom) = (entry[2], word(entry, 4));
+        if !fits(scratch, &task, u32::from(column), bottom as i32) {
+            return false;
+        }
+        let at = Place {
+            number,
+            column: usize::from(column),
+            bottom,
+        };
+        enter(scratch, index, at, &task, bytes);
+    }
+    true
+}

@@ -1,0 +1,122 @@
+//! A task's blocks, read once from its bytes, with all that makes it well-formed tested on the way.
+
+use crate::layout::{height, BLOCK_SIZE, MAX_BLOCKS, MAX_COLUMNS, REACH};
+
+/// A block; bottom and top are relative to the first block's bottom.
+///
+/// The fields are as narrow as the bytes they come from: a task is read for every running entry.
+#[derive(Clone, Copy, Debug)]
+pub struct Block {
+    column: u8,
+    kind: u8,
+    bottom: i16,
+    top: i16,
+}
+
+/// A well-formed task.
+pub struct Task {
+    blocks: [Block; MAX_BLOCKS],
+    count: usize,
+}
+
+/// Whether the bytes are those of 1 to 32 whole blocks.
+pub fn is_sized(bytes: &[u8]) -> bool {
+    !bytes.is_empty()
+        && bytes.len() <= BLOCK_SIZE * MAX_BLOCKS
+        && bytes.len().is_multiple_of(BLOCK_SIZE)
+}
+
+impl Block {
+    const ZERO: Block = Block {
+        column: 0,
+        kind: 0,
+        bottom: 0,
+        top: 0,
+    };
+
+    fn read(bytes: &[u8]) -> Block {
+        Block {
+            column: bytes[0],
+            kind: bytes[1],
+            bottom: i16::from_le_bytes([bytes[2], bytes[3]]),
+            top: i16::from_le_bytes([bytes[4], bytes[5]]),
+        }
+    }
+
+    /// What well-formedness asks of one block alone.
+    fn is_good(&self) -> bool {
+        self.column() < MAX_COLUMNS
+            && self.kind <= 2
+            && self.bottom() >= -REACH
+            && self.top() <= REACH
+            && self.bottom < self.top
+            && self.size().is_multiple_of(height(self.kind))
+    }
+
+    /// What well-formedness asks of two blocks in a row.
+    fn may_follow(&self, previous: &Block) -> bool {
+        self.column > previous.column
+            || (self.column == previous.column
+                && self.kind == previous.kind
+                && self.bottom > previous.top)
+    }
+
+    /// The column, counted from the task's first.
+    pub fn column(&self) -> usize {
+        usize::from(self.column)
+    }
+
+    /// The kind byte, 0 to 2.
+    pub fn kind(&self) -> u8 {
+        self.kind
+    }
+
+    /// The lowest half row.
+    pub fn bottom(&self) -> i32 {
+        i32::from(self.bottom)
+    }
+
+    /// The half row above the highest.
+    pub fn top(&self) -> i32 {
+        i32::from(self.top)
+    }
+
+    /// The half rows that it covers.
+    pub fn size(&self) -> u32 {
+        (self.top() - self.bottom()) as u32
+    }
+}
+
+impl Task {
+    /// Reads bytes of a good length; none where the task is not well-formed.
+    pub fn read(bytes: &[u8]) -> Option<Task> {
+        let mut task = Task {
+            blocks: [Block::ZERO; MAX_BLOCKS],
+            count: bytes.len() / BLOCK_SIZE,
+        };
+        let mut previous: Option<Block> = None;
+        for (place, bytes) in task.blocks.iter_mut().zip(bytes.chunks_exact(BLOCK_SIZE)) {
+            let block = Block::read(bytes);
+            let is_next = match previous {
+                None => block.column == 0 && block.bottom == 0,
+                Some(previous) => block.may_follow(&previous),
+            };
+            if !is_next || !block.is_good() {
+                return None;
+            }
+            *place = block;
+            previous = Some(block);
+        }
+        Some(task)
+    }
+
+    /// The blocks.
+    pub fn blocks(&self) -> &[Block] {
+        &self.blocks[..self.count]
+    }
+
+    /// The highest column of the task, counted from its first.
+    pub fn last_column(&self) -> usize {
+        self.blocks().last().map_or(0, Block::column)
+    }
+}
