@@ -33,8 +33,16 @@ abbrev pub Opens : Option Device → List ℕ → ℤ → List ℕ → Type 0
 Opens none r a r′ = a ≡ negℤ (pos 12)
 Opens (some d) r a r′ = Changes (new r (d .rows) (d .kinds)) a r′
 
--- the rest of the program's output: that of the lines from byte `at` on, on an empty card and with an empty draft; or the refusal of one of lines 1 to 3
+-- what the program prints on an empty card of device d, from the fourth line on or with a fault in lines 1 to 3
+abbrev pub rest-of : Begun → Device → List ℕ → List ℕ
+rest-of (Ready at) d input = on-lines 4 (record { device = d; book = []; draft = [] }) (lines (drop at input))
+rest-of (Fault line answer) d input = says line answer
+
+-- the card where there is one: that of the device, with no task
+abbrev pub Opened : Begun → Device → List ℕ → Type 0
+Opened (Ready at) d card = (card ≡ record-of d []) × Card card
+Opened (Fault line answer) d card = Unit {0}
+
+-- what the first lines lead to: the output of all lines is what is printed from there on
 abbrev pub Begins : Begun → List ℕ → List ℕ → List ℕ → Type 0
-Begins (Ready at) input card output =
-    (d : Device) × (card ≡ record-of d []) × Card card × (output ≡ on-lines 4 (record { device = d; book = []; draft = [] }) (lines (drop at input)))
-Begins (Fault line answer) input card output = output ≡ says line answer
+Begins b input card output = (d : Device) × Opened b d card × (output ≡ rest-of b d input)

@@ -2,12 +2,14 @@
 use crate::MALFORMED;
 use line::device::Rows;
 ghost use mathlib.Core.Path.{_≡_};
-ghost use Prim.Native.Nat.{_<_, _≤_};
+ghost use Prim.Native.Nat.{_<_};
 ghost use lib.ListN.{length, drop};
 ghost use Rattle.model.specs.Limits.{record-size};
 ghost use Rattle.model.specs.Sheet.{device-line};
-ghost use Rattle.model.specs.Program.{says, malformed, first, second, third, lines};
-ghost use Rattle.desk.specs.Input.{Ends, Opens, Begins};
+ghost use lib.IntN.{negsuc};
+ghost use Rattle.model.specs.Columns.{Device};
+ghost use Rattle.model.specs.Program.{first, second, third, lines};
+ghost use Rattle.desk.specs.Input.{Ends, Opens, rest-of, Begins};
 
 // What the first three lines lead to: where the fourth starts, or the line that ends the program and its refusal.
 pub enum Begun {
@@ -42,7 +44,9 @@ pub fn new_card(line: &[u8], card: &mut [u8]) -> i32
 }
 
 // A malformed or missing line.
-fn malformed(line: u32) -> Begun {
+fn malformed(line: u32) -> Begun
+    ensures { λ r. ⌜ r ≡ Begun.Fault line (negsuc 11) ⌝ }
+{
     Begun::Fault {
         line: line,
         answer: MALFORMED,
@@ -50,7 +54,9 @@ fn malformed(line: u32) -> Begun {
 }
 
 // The third line, which starts at `at`.
-fn third(input: &[u8], at: usize) -> Begun {
+fn third(input: &[u8], at: usize) -> Begun
+    ensures { λ r. ⌜ ((d : Device) → third d (lines (drop at (now (input .entry)))) ≡ rest-of r d (now (input .entry))) ⌝ }
+{
     if input.len() <= at {
         return malformed(3);
     }
@@ -62,7 +68,10 @@ fn third(input: &[u8], at: usize) -> Begun {
 }
 
 // The second line, which starts at `at`, and the third.
-fn second(input: &[u8], at: usize, card: &mut [u8]) -> Begun {
+fn second(input: &[u8], at: usize, card: &mut [u8]) -> Begun
+    requires { ⌜ length (now card) ≡ record-size ⌝ }
+    ensures { λ r. ⌜ Begins r (now (input .entry)) (now (card .exit)) (second (lines (drop at (now (input .entry))))) ⌝ }
+{
     if input.len() <= at {
         return malformed(2);
     }
@@ -78,7 +87,10 @@ fn second(input: &[u8], at: usize, card: &mut [u8]) -> Begun {
 }
 
 // The first three lines. The card is that of the second line.
-pub fn begin(input: &[u8], card: &mut [u8]) -> Begun {
+pub fn begin(input: &[u8], card: &mut [u8]) -> Begun
+    requires { ⌜ length (now card) ≡ record-size ⌝ }
+    ensures { λ r. ⌜ Begins r (now (input .entry)) (now (card .exit)) (first (lines (now (input .entry)))) ⌝ }
+{
     if input.len() == 0 {
         return malformed(1);
     }

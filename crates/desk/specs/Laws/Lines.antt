@@ -1,27 +1,28 @@
 -- What a line leaves, by the call that it makes. Assumes nothing.
 use Prim.Native.Nat.{ℕ, _+_, _*_, _/_, _%_, _≤_, _<_}
 use mathlib.Core.Path.{_≡_, refl, sym, ap, _∙_}
-use mathlib.Core.Bool.{true}
+use mathlib.Core.Bool.{Bool, true, false, cond}
 use mathlib.Core.Option.{Option, none, some}
 use mathlib.Core.List.{List, [], _∷_, _++_, append-assoc}
 use native.Mathlib.Omega.{arith}
+use lib.Dec.{ltb}
 use lib.IntN.{ℤ, pos, negsuc, negℤ}
 use lib.Signed.{mag}
-use lib.ListN.{length, take, drop, length-append, length-drop}
+use lib.ListN.{length, replicate, take, drop, length-append, length-drop}
 use lib.Seq.{take-at, length-take-le}
 use mir.Syntax.{w16}
 use mir.Val.{ofZ}
 use borrow.Author.Tests.{lt-ltb, le-ltb}
-use Rattle.model.specs.Limits.{block-size, max-blocks}
+use Rattle.model.specs.Limits.{block-size, max-blocks, list-room}
 use Rattle.model.specs.Columns.{Device}
 use Rattle.model.specs.Tasks.{blocks}
 use Rattle.model.specs.Book.{Book}
 use Rattle.model.specs.Kinds.{number-of}
 use Rattle.model.specs.Record.{record-of, device-of, book-of, bytes16}
 use Rattle.model.specs.Sound.{within}
-use Rattle.model.specs.Calls.{Call, choose, place, release, Outcome, refused, refusals, unless, lent, done, on-book}
+use Rattle.model.specs.Calls.{Call, list, choose, place, release, Outcome, refused, refusals, unless, lent, done, on-book}
 use Rattle.model.specs.OnRecord.{written, on-record}
-use Rattle.model.specs.Sheet.{empty-draft, list-draft, choose-draft, place-draft, release-task, sheet-line}
+use Rattle.model.specs.Sheet.{SheetCall, empty-draft, list-draft, choose-draft, place-draft, release-task, sheet-line}
 use Rattle.model.specs.Program.{Desk, Left, says, answered, listed, on-call, on-read, on-line}
 use Rattle.model.specs.Program as program
 use Rattle.model.specs.Laws.Parts.{splice, length-splice}
@@ -83,6 +84,33 @@ module _ (r : List ℕ) (k : Card r) (number : ℕ) (t draft : List ℕ) (used :
     drafted = f;
   }
 
+  -- list leaves the card
+  pub leaves-listed : {out : List ℕ} {printed : ℕ} → Shows out printed (on-call number (desk-of r t) list-draft .printed)
+      → Leaves (on-call number (desk-of r t) list-draft) r draft used out printed
+  unfolding on-call
+  leaves-listed {out} {printed} s = go (on-book (device-of r) (book-of r) (list t (replicate list-room 0)) .answer) s
+    where
+      go : (z : ℤ) → Shows out printed (listed number (desk-of r t) z .printed) → Leaves (listed number (desk-of r t) z) r draft used out printed
+      go (pos n) s = leaves-same s
+      go (negsuc n) s = leaves-same s
+
+  -- a malformed line, and a line that says a call
+  pub leaves-malformed : (l : List ℕ) {out : List ℕ} {printed : ℕ} → sheet-line l ≡ none → Shows out printed (says number (negsuc 11))
+      → Leaves (on-line number (desk-of r t) l) r draft used out printed
+  unfolding on-line
+  leaves-malformed l q s = rw q (leaves-same s)
+
+pub line-does : (number : ℕ) (k : Desk) (l : List ℕ) {c : SheetCall} → sheet-line l ≡ some c → on-line number k l ≡ on-call number k c
+unfolding on-line
+line-does number k l q = rw q
+
+-- the draft emptied
+pub leaves-emptied : (r : List ℕ) → Card r → (number : ℕ) (draft : List ℕ) (used : ℕ) → Drafted draft used → (t out : List ℕ)
+    → Leaves (on-call number (desk-of r t) empty-draft) r draft 0 out 0
+unfolding on-call
+leaves-emptied r k number draft used f t out =
+    leaves-same r k number [] draft 0 refl (record { room = f .room; most = omega arith; whole = refl }) (shows-none out)
+
 -- ---- a block added
 
 -- what was there, and the bytes put behind it
@@ -126,3 +154,25 @@ module _ (draft : List ℕ) (used number : ℕ) (b : BlockCall) (f : Drafted dra
         printed-is = λ d k. rw (le-ltb _ _ many) s;
         drafted = f;
       }
+
+-- on a card: the card stays
+pub leaves-added : (r : List ℕ) → Card r → (draft : List ℕ) (used number : ℕ) (b : BlockCall) {draft′ out : List ℕ} {used′ printed : ℕ} → Adds draft used number b draft′ out used′ printed
+    → Leaves (on-call number (desk-of r (take used draft)) (call-said (Block b))) r draft′ used′ out printed
+unfolding on-call
+leaves-added r k draft used number b a = record {
+  card-is = k .is ∙ go (ltb (blocks (take used draft)) max-blocks);
+  draft-is = a .draft-is (device-of r) (book-of r);
+  printed-is = a .printed-is (device-of r) (book-of r);
+  is-card = k;
+  drafted = a .drafted;
+}
+  where
+    x : Left
+    x = record { printed = []; desk = desk-of r (take used draft ++ program.block-bytes (b .column) (number-of (b .kind)) (b .bottom) (b .top)) }
+
+    y : Left
+    y = record { printed = says number (negℤ (pos 4)); desk = desk-of r (take used draft) }
+
+    go : (w : Bool) → record-of (device-of r) (book-of r) ≡ record-of (cond w x y .desk .device) (cond w x y .desk .book)
+    go true = refl
+    go false = refl

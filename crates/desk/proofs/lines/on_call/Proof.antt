@@ -1,200 +1,84 @@
-use borrow.Author.Needs.{needs}
+-- `desk::lines::on_call` meets its contract: one law for each call. Assumes nothing.
+use borrow.Author.Needs.{needs, sfits-of}
+use mathlib.Core.Path.{_≡_, refl, sym}
+use native.Mathlib.Omega.{arith}
+use lib.ListN.{take}
+use lib.Seq.{length-take-le}
+use mir.Syntax.{w16}
+use mir.Facts.{toZ-ofZ}
+use Rattle.model.specs.Calls.{place, release}
+use Rattle.model.specs.Program.{on-call}
+use Rattle.desk.specs.Laws.Lines.{leaves-added, leaves-emptied, leaves-listed, leaves-chosen, leaves-answered}
 use Rattle.desk.proofs.lines.on_call.Statement.{statement}
 use Rattle.desk.proofs.lines.on_call.Tie as tie
-use Rattle.desk.proofs.lines.on_call.Reads as reads
-use Rattle.desk.proofs.lines.on_call.Lts as lts
-use Rattle.desk.proofs.blocks.add_block.Reads as add-block-reads
-use Rattle.desk.proofs.calls.choose.Reads as choose-reads
-use Rattle.desk.proofs.calls.place.Reads as place-reads
-use Rattle.desk.proofs.calls.release.Reads as release-reads
-use Rattle.desk.proofs.ranges.list.Reads as list-reads
 
--- src/lines.rt:28:21
-enum-known-call : tie.Need-enum-known-call
-enum-known-call c = search needs
-
--- src/lines.rt:28:31
-add-block-requires : tie.Need-add-block-requires
-add-block-requires c κs = search needs
-
--- src/lines.rt:29:24
-enum-told : tie.Need-enum-told
-enum-told c = search needs
-
--- src/lines.rt:34:40
-enum-told-2 : tie.Need-enum-told-2
-enum-told-2 c = search needs
-
--- src/lines.rt:34:46
-slice-reshare-prefix-list : tie.Need-slice-reshare-prefix-list
-slice-reshare-prefix-list c = search needs
-
--- src/lines.rt:34:46
 slice-aggregate-list : tie.Need-slice-aggregate-list
-slice-aggregate-list c = ?
+slice-aggregate-list c = sym (length-take-le _ _ (omega arith))
 
--- src/lines.rt:34:17
-list-requires : tie.Need-list-requires
-list-requires c κs = search needs
-
--- src/lines.rt:41:41
-enum-told-3 : tie.Need-enum-told-3
-enum-told-3 c = search needs
-
--- src/lines.rt:41:47
-slice-reshare-prefix-choose : tie.Need-slice-reshare-prefix-choose
-slice-reshare-prefix-choose c = search needs
-
--- src/lines.rt:41:47
 slice-aggregate-choose : tie.Need-slice-aggregate-choose
-slice-aggregate-choose c = ?
+slice-aggregate-choose c = sym (length-take-le _ _ (omega arith))
 
--- src/lines.rt:41:17
-choose-requires : tie.Need-choose-requires
-choose-requires c κs = search needs
-
--- src/lines.rt:47:23
-enum-known-call-2 : tie.Need-enum-known-call-2
-enum-known-call-2 c = search needs
-
--- src/lines.rt:48:46
-slice-reshare-prefix-place : tie.Need-slice-reshare-prefix-place
-slice-reshare-prefix-place c = search needs
-
--- src/lines.rt:48:46
 slice-aggregate-place : tie.Need-slice-aggregate-place
-slice-aggregate-place c = ?
+slice-aggregate-place c = sym (length-take-le _ _ (omega arith))
 
--- src/lines.rt:48:17
-place-requires : tie.Need-place-requires
-place-requires c κs = search needs
-
--- src/lines.rt:54:25
-enum-known-call-3 : tie.Need-enum-known-call-3
-enum-known-call-3 c = search needs
-
--- src/lines.rt:55:17
-release-requires : tie.Need-release-requires
-release-requires c κs = search needs
-
--- src/lines.rt:15:1
-same-length : tie.Need-same-length
-same-length c = search needs
-
--- src/lines.rt:15:1
-same-length-2 : tie.Need-same-length-2
-same-length-2 c = search needs
-
--- src/lines.rt:15:1
 returns : tie.Need-returns
-returns c = ?
+returns c =
+    let a = c .before .before .before .before in
+    let k = a .before .before .before .before in
+    let s = k .before .before .before .before .before .before in
+    rw (k .call .given .1) (leaves-added (s .args .card .now) (s .pre .is-card) (s .args .draft .now) (s .args .used) (s .args .number) (k .call .given .0 .0) (a .add-block .ensures))
 
--- src/lines.rt:15:1
 returns-2 : tie.Need-returns-2
-returns-2 c = ?
+returns-2 c =
+    let s = c .before .before .before .before .before .before in
+    rw (c .enum-told .given .1) (leaves-emptied (s .args .card .now) (s .pre .is-card) (s .args .number) (s .args .draft .now) (s .args .used) (s .pre .drafted) _ _)
 
--- src/lines.rt:15:1
-same-length-3 : tie.Need-same-length-3
-same-length-3 c = search needs
-
--- src/lines.rt:15:1
-same-length-4 : tie.Need-same-length-4
-same-length-4 c = search needs
-
--- src/lines.rt:15:1
-same-length-5 : tie.Need-same-length-5
-same-length-5 c = search needs
-
--- src/lines.rt:15:1
-same-length-6 : tie.Need-same-length-6
-same-length-6 c = search needs
-
--- src/lines.rt:15:1
 returns-3 : tie.Need-returns-3
-returns-3 c = ?
+returns-3 c =
+    let y = c .before .before .before .before in
+    let e = y .before .before .before .before .before in
+    let s = e .before .before .before .before .before .before in
+    rw (e .enum-told2 .given .1)
+    (leaves-listed (s .args .card .now) (s .pre .is-card) (s .args .number) (take (s .args .used) (s .args .draft .now)) (s .args .draft .now) (s .args .used) refl (s .pre .drafted) (y .list .ensures))
 
--- src/lines.rt:15:1
-same-length-7 : tie.Need-same-length-7
-same-length-7 c = search needs
-
--- src/lines.rt:15:1
-same-length-8 : tie.Need-same-length-8
-same-length-8 c = search needs
-
--- src/lines.rt:15:1
-same-length-9 : tie.Need-same-length-9
-same-length-9 c = search needs
-
--- src/lines.rt:15:1
 returns-4 : tie.Need-returns-4
-returns-4 c = ?
+returns-4 c =
+    let y = c .before .before in
+    let e = y .before .before .before .before in
+    let s = e .before .before .before .before .before .before in
+    rw (e .enum-told3 .given .1)
+    (leaves-chosen (s .args .card .now) (s .pre .is-card) (s .args .number) (take (s .args .used) (s .args .draft .now)) (s .args .draft .now) (s .args .used) refl (s .pre .drafted) (y .choose .ensures))
 
--- src/lines.rt:15:1
-same-length-10 : tie.Need-same-length-10
-same-length-10 c = search needs
-
--- src/lines.rt:15:1
-same-length-11 : tie.Need-same-length-11
-same-length-11 c = search needs
-
--- src/lines.rt:15:1
-same-length-12 : tie.Need-same-length-12
-same-length-12 c = search needs
-
--- src/lines.rt:15:1
 returns-5 : tie.Need-returns-5
-returns-5 c = ?
+unfolding on-call
+returns-5 c =
+    let y = c .before .before .before .before in
+    let k = y .before .before .before .before .before in
+    let s = k .before .before .before .before .before .before in
+    let v = k .call2 .given .0 in
+    let t = take (s .args .used) (s .args .draft .now) in
+    let bottom = toZ-ofZ (sfits-of {w = w16} {z = v .1 .1 .0} (y .before .before .before .before .known-told2 .given .1 .1 .0 .1)) in
+    rw (k .call2 .given .1)
+    (leaves-answered (s .args .card .now) (s .pre .is-card) (s .args .number) t (s .args .draft .now) (s .args .used) refl (s .pre .drafted) (place t (v .0) (v .1 .0) (v .1 .1 .0)) (rw bottom at (y .place .ensures)))
 
--- src/lines.rt:15:1
-same-length-13 : tie.Need-same-length-13
-same-length-13 c = search needs
-
--- src/lines.rt:15:1
-same-length-14 : tie.Need-same-length-14
-same-length-14 c = search needs
-
--- src/lines.rt:15:1
 returns-6 : tie.Need-returns-6
-returns-6 c = ?
+unfolding on-call
+returns-6 c =
+    let y = c .before .before .before .before in
+    let k = y .before .before .before .before in
+    let s = k .before .before .before .before .before .before in
+    rw (k .call3 .given .1)
+    (leaves-answered (s .args .card .now) (s .pre .is-card) (s .args .number) (take (s .args .used) (s .args .draft .now)) (s .args .draft .now) (s .args .used) refl (s .pre .drafted) (release (k .call3 .given .0 .0)) (y .release .ensures))
 
 pub on-call-spec : {M : Type 1} → statement M
 on-call-spec =
     tie.close
-    (tie.spec
-    enum-known-call
-    add-block-requires
-    enum-told
-    enum-told-2
-    slice-reshare-prefix-list
-    slice-aggregate-list
-    list-requires
-    enum-told-3
-    slice-reshare-prefix-choose
-    slice-aggregate-choose
-    choose-requires
-    enum-known-call-2
-    slice-reshare-prefix-place
-    slice-aggregate-place
-    place-requires
-    enum-known-call-3
-    release-requires
-    same-length
-    same-length-2
-    returns
-    returns-2
-    same-length-3
-    same-length-4
-    same-length-5
-    same-length-6
-    returns-3
-    same-length-7
-    same-length-8
-    same-length-9
-    returns-4
-    same-length-10
-    same-length-11
-    same-length-12
-    returns-5
-    same-length-13
-    same-length-14
-    returns-6)
+    (tie.spec (λ c. search needs) (λ c κs. search needs) (λ c. search needs) (λ c. search needs)
+    (λ c. search needs) slice-aggregate-list (λ c κs. search needs) (λ c. search needs)
+    (λ c. search needs) slice-aggregate-choose (λ c κs. search needs) (λ c. search needs)
+    (λ c. search needs) slice-aggregate-place (λ c κs. search needs) (λ c. search needs) (λ c κs. search needs)
+    (λ c. search needs) (λ c. search needs) returns returns-2
+    (λ c. search needs) (λ c. search needs) (λ c. search needs) (λ c. search needs) returns-3
+    (λ c. search needs) (λ c. search needs) (λ c. search needs) returns-4
+    (λ c. search needs) (λ c. search needs) (λ c. search needs) returns-5
+    (λ c. search needs) (λ c. search needs) returns-6)
