@@ -3,7 +3,6 @@ use crate::DRAFT_ROOM;
 use crate::TOO_MANY_BLOCKS;
 use crate::calls;
 use line::call::BlockCall;
-
 ghost use Prim.Native.Nat.{_≤_};
 ghost use lib.ListN.{length};
 ghost use Rattle.desk.specs.Desk.{line-room, Drafted, Adds};
@@ -15,7 +14,13 @@ pub struct Step {
 }
 
 // B: a block more in the draft, or the refusal of a 33rd block.
-pub fn add_block(draft: &mut [u8], used: usize, number: u32, block: BlockCall, out: &mut [u8]) -> Step
+pub fn add_block(
+    draft: &mut [u8],
+    used: usize,
+    number: u32,
+    block: BlockCall,
+    out: &mut [u8],
+) -> Step
     requires { ⌜ Drafted (now draft) used × (line-room ≤ length (now out)) ⌝ }
     ensures { λ r. ⌜ Adds (now (draft .entry)) used number block (now (draft .exit)) (now (out .exit)) (r .used) (r .printed) ⌝ }
 {

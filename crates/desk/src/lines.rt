@@ -4,9 +4,9 @@ ghost use Rattle.model.specs.Program.{on-call, on-line};
 ghost use Rattle.line.specs.Calls.{call-said};
 ghost use Rattle.desk.specs.Desk.{desk-of, Ready, Leaves};
 use crate::MALFORMED;
-use crate::calls;
 use crate::blocks;
 use crate::blocks::Step;
+use crate::calls;
 use crate::ranges;
 use line::call::Call;
 use line::call::Line;
@@ -44,7 +44,11 @@ fn on_call(
                 printed: printed,
             }
         }
-        Call::Place { task, column, bottom } => {
+        Call::Place {
+            task,
+            column,
+            bottom,
+        } => {
             let printed = calls::place(card, &draft[..used], number, task, column, bottom, out);
             Step {
                 used: used,

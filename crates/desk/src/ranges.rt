@@ -11,7 +11,14 @@ ghost use Rattle.desk.specs.Desk.{line-room, desk-of, Shows, Card, Room,
 use crate::calls;
 
 // The line of output of range i, printed from byte `at` on.
-fn print_range(listing: &[u8], i: usize, number: u32, answer: i32, out: &mut [u8], at: usize) -> usize
+fn print_range(
+    listing: &[u8],
+    i: usize,
+    number: u32,
+    answer: i32,
+    out: &mut [u8],
+    at: usize,
+) -> usize
     requires { ⌜ (range-size * i + range-size ≤ length (now listing)) × (at + line-room ≤ length (now out)) ⌝ }
     ensures { λ r. ⌜ (r ≤ at + line-room) × Printed (now (out .entry)) (now (out .exit)) at r (range-line number answer (range-at (now (listing .entry)) i)) ⌝ }
 {

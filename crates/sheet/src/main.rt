@@ -5,6 +5,7 @@ use libc::STDOUT_FILENO;
 
 // The greatest input, and one byte more, by which a longer one is known.
 const MAX_SHEET: usize = 32768;
+
 const INPUT_ROOM: usize = 32769;
 
 // Writes a line that has an answer and no range.

@@ -124,6 +124,7 @@ module _ (r t o : List ℕ) (k : Card r) (l : length o ≡ list-room) (number : 
       go (inl (m, a)) = absurd (let q : _≡_ {A = ℕ} 0 1 = cc same in omega arith)
       go (inr (s, a, w)) =
           let count : n ≡ length L = cc same in
-          let bytes : o′ ≡ over (join-in range-bytes L) o = q ∙ ap (λ (x : Outcome (List ℕ)). x .output) on-card ∙ w in
-          (rw (bytes, count) (omega (arith, length-append (join-in range-bytes L) (drop (length (join-in range-bytes L)) o), range-length L)),
-          rw (bytes, count, read-ranges (device-of r) (book-of r) (k .within) t s o) (rw count at (listed-as (pos n) e)))
+          let bytes : o′ ≡ over (join-in range-bytes L) o = q ∙ ap (λ (x : Outcome (List ℕ)). x .output) on-card ∙ w in (
+            rw (bytes, count) (omega (arith, length-append (join-in range-bytes L) (drop (length (join-in range-bytes L)) o), range-length L)),
+            rw (bytes, count, read-ranges (device-of r) (book-of r) (k .within) t s o) (rw count at (listed-as (pos n) e)),
+          )

@@ -1,79 +1,36 @@
+-- `desk::input::begin` meets its contract. Assumes nothing.
 use borrow.Author.Needs.{needs}
+use borrow.Author.Tests.{not-true, not-false}
+use mathlib.Core.Path.{_≡_, _∙_}
+use Rattle.desk.specs.Laws.Input.{no-device, first-none, first-wrong, first-right}
 use Rattle.desk.proofs.input.begin.Statement.{statement}
 use Rattle.desk.proofs.input.begin.Tie as tie
-use Rattle.desk.proofs.input.begin.Reads as reads
-use Rattle.desk.proofs.input.begin.Lts as lts
-use Rattle.desk.proofs.input.line_end.Reads as line-end-reads
-use Rattle.desk.proofs.input.malformed.Reads as malformed-reads
-use Rattle.desk.proofs.input.second.Reads as second-reads
-use Rattle.line.proofs.device.is_first_names.Reads as is-first-names-reads
 
--- src/input.rt:95:9
-malformed-requires : tie.Need-malformed-requires
-malformed-requires c κs = search needs
-
--- src/input.rt:95:9
 returns : tie.Need-returns
-returns c = ?
+returns c =
+    let s = c .before .before .before .before in
+    rw (c .malformed .ensures) (no-device, tt, first-none (s .args .input .now) (c .before .if1 .taken))
 
--- src/input.rt:97:9
-line-end-requires : tie.Need-line-end-requires
-line-end-requires c κs = search needs
-
--- src/input.rt:98:38
-sub-is-first-names : tie.Need-sub-is-first-names
-sub-is-first-names c = search needs
-
--- src/input.rt:98:38
-part-is-first-names-start : tie.Need-part-is-first-names-start
-part-is-first-names-start c = search needs
-
--- src/input.rt:98:38
-part-is-first-names-end : tie.Need-part-is-first-names-end
-part-is-first-names-end c = search needs
-
--- src/input.rt:98:9
-is-first-names-requires : tie.Need-is-first-names-requires
-is-first-names-requires c κs = search needs
-
--- src/input.rt:99:9
-malformed-requires-2 : tie.Need-malformed-requires-2
-malformed-requires-2 c κs = search needs
-
--- src/input.rt:99:9
 returns-2 : tie.Need-returns-2
-returns-2 c = ?
+returns-2 c =
+    let n = c .before .before in
+    let e = n .before .before in
+    let s = e .before .before .before .before in
+    rw (c .malformed2 .ensures)
+    (no-device, tt, first-wrong (s .args .input .now) 0 (e .line-end .result) (e .line-end .ensures) (n .is-first-names .ensures .no (not-true (n .is-first-names .result) (c .before .if2 .taken))))
 
--- src/input.rt:101:19
-add-second : tie.Need-add-second
-add-second c = search needs
-
--- src/input.rt:101:5
-second-requires : tie.Need-second-requires
-second-requires c κs = search needs
-
--- src/input.rt:90:1
-same-length : tie.Need-same-length
-same-length c = search needs
-
--- src/input.rt:90:1
 returns-3 : tie.Need-returns-3
-returns-3 c = ?
+returns-3 c =
+    let y = c .before .before in
+    let t = y .before .before in
+    let n = t .before in
+    let e = n .before .before in
+    let s = e .before .before .before .before in
+    let r = y .second .ensures in
+    (r .0, r .1, first-right (s .args .input .now) 0 (e .line-end .result) (e .line-end .ensures) (n .is-first-names .ensures .yes (not-false (n .is-first-names .result) (t .if2 .left))) ∙ r .2)
 
 pub begin-spec : {M : Type 1} → statement M
 begin-spec =
     tie.close
-    (tie.spec
-    malformed-requires
-    returns
-    line-end-requires
-    sub-is-first-names
-    part-is-first-names-start
-    part-is-first-names-end
-    is-first-names-requires
-    malformed-requires-2
-    returns-2
-    add-second
-    second-requires
-    same-length
-    returns-3)
+    (tie.spec (λ c κs. search needs) returns (λ c κs. search needs) (λ c. search needs) (λ c. search needs) (λ c. search needs)
+    (λ c κs. search needs) (λ c κs. search needs) returns-2 (λ c. search needs) (λ c κs. search needs) (λ c. search needs) returns-3)

@@ -1,79 +1,46 @@
+-- `desk::input::second` meets its contract. Assumes nothing.
 use borrow.Author.Needs.{needs}
+use mathlib.Core.Path.{_≡_, _∙_}
+use lib.ListN.{take, drop}
+use mir.Syntax.{w32}
+use Prim.Native.Nat.{_+_, _-_}
+use Rattle.signed.proofs.Signed.{read}
+use Rattle.model.specs.Sheet.{device-line}
+use Rattle.model.specs.Program.{lines}
+use Rattle.desk.specs.Laws.Input.{no-device, second-none, second-is, second-refused, second-opened}
 use Rattle.desk.proofs.input.second.Statement.{statement}
 use Rattle.desk.proofs.input.second.Tie as tie
-use Rattle.desk.proofs.input.second.Reads as reads
-use Rattle.desk.proofs.input.second.Lts as lts
-use Rattle.desk.proofs.input.line_end.Reads as line-end-reads
-use Rattle.desk.proofs.input.malformed.Reads as malformed-reads
-use Rattle.desk.proofs.input.new_card.Reads as new-card-reads
-use Rattle.desk.proofs.input.third.Reads as third-reads
 
--- src/input.rt:76:9
-malformed-requires : tie.Need-malformed-requires
-malformed-requires c κs = search needs
-
--- src/input.rt:76:9
 returns : tie.Need-returns
-returns c = ?
+returns c =
+    let s = c .before .before .before .before in
+    rw (c .malformed .ensures) (no-device, tt, second-none (s .args .input .now) (s .args .at) (c .before .if1 .taken))
 
--- src/input.rt:78:9
-line-end-requires : tie.Need-line-end-requires
-line-end-requires c κs = search needs
-
--- src/input.rt:79:27
-sub-new-card : tie.Need-sub-new-card
-sub-new-card c = search needs
-
--- src/input.rt:79:27
-part-new-card-start : tie.Need-part-new-card-start
-part-new-card-start c = search needs
-
--- src/input.rt:79:27
-part-new-card-end : tie.Need-part-new-card-end
-part-new-card-end c = search needs
-
--- src/input.rt:79:9
-new-card-requires : tie.Need-new-card-requires
-new-card-requires c κs = search needs
-
--- src/input.rt:81:9
-same-length : tie.Need-same-length
-same-length c = search needs
-
--- src/input.rt:81:9
 returns-2 : tie.Need-returns-2
-returns-2 c = ?
+returns-2 c =
+    let n = c .before .before .before in
+    let e = n .before .before .before in
+    let s = e .before .before .before .before in
+    let h = rw (read w32 (n .new-card .ok)) at (c .if2 .taken) in
+    rw (read w32 (n .new-card .ok)) (
+      no-device,
+      tt,
+      second-is (s .args .input .now) (s .args .at) (e .line-end .result) (e .line-end .ensures)
+          ∙ second-refused (s .args .card .now) (s .pre) (lines (drop (e .line-end .result + 1) (s .args .input .now))) (device-line (take (e .line-end .result - s .args .at) (drop (s .args .at) (s .args .input .now)))) (n .new-card .result) (n .new-card .last .1 .0) (n .new-card .ensures) h,
+    )
 
--- src/input.rt:86:18
-add-third : tie.Need-add-third
-add-third c = search needs
-
--- src/input.rt:86:5
-third-requires : tie.Need-third-requires
-third-requires c κs = search needs
-
--- src/input.rt:71:1
-same-length-2 : tie.Need-same-length-2
-same-length-2 c = search needs
-
--- src/input.rt:71:1
 returns-3 : tie.Need-returns-3
-returns-3 c = ?
+returns-3 c =
+    let t = c .before in
+    let n = t .before .before .before in
+    let e = n .before .before .before in
+    let s = e .before .before .before .before in
+    let h = rw (read w32 (n .new-card .ok)) at (t .if2 .left) in
+    rw (second-is (s .args .input .now) (s .args .at) (e .line-end .result) (e .line-end .ensures))
+    (second-opened (s .args .card .now) (s .pre) (lines (drop (e .line-end .result + 1) (s .args .input .now))) (device-line (take (e .line-end .result - s .args .at) (drop (s .args .at) (s .args .input .now)))) (n .new-card .result) (n .new-card .last .1 .0) (n .new-card .ensures) h (c .third .result) (s .args .input .now) (c .third .ensures))
 
 pub second-spec : {M : Type 1} → statement M
 second-spec =
     tie.close
-    (tie.spec
-    malformed-requires
-    returns
-    line-end-requires
-    sub-new-card
-    part-new-card-start
-    part-new-card-end
-    new-card-requires
-    same-length
-    returns-2
-    add-third
-    third-requires
-    same-length-2
-    returns-3)
+    (tie.spec (λ c κs. search needs) returns (λ c κs. search needs) (λ c. search needs) (λ c. search needs) (λ c. search needs)
+    (λ c κs. search needs) (λ c. search needs) returns-2 (λ c. search needs) (λ c κs. search needs) (λ c. search needs) returns-3)

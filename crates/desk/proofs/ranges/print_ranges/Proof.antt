@@ -35,9 +35,12 @@ loop-again c =
     let p = c .before .before in
     let l = p .before .before .before in
     let s = l .before .before .before in
-    let more = printed-more (omega (arith, l .loop .inv .2)) (l .loop .inv .3) (p .print-range .ensures .1) in
-    (omega arith, omega (arith, p .print-range .ensures .0), p .print-range .kept .1 .1 .1 .1 .0 ∙ l .loop .inv .2,
-    rw (shows-more (s .args .number) (toZ w32 (ofZ w32 (s .args .answer))) (l .loop .i) (s .args .listing .now)) at more)
+    let more = printed-more (omega (arith, l .loop .inv .2)) (l .loop .inv .3) (p .print-range .ensures .1) in (
+      omega arith,
+      omega (arith, p .print-range .ensures .0),
+      p .print-range .kept .1 .1 .1 .1 .0 ∙ l .loop .inv .2,
+      rw (shows-more (s .args .number) (toZ w32 (ofZ w32 (s .args .answer))) (l .loop .i) (s .args .listing .now)) at more,
+    )
 
 returns : tie.Need-returns Inv-loop μ-loop
 returns c =
