@@ -1,0 +1,5 @@
+-- What is proved of the definitions.
+pub mod Input
+pub mod Shows
+pub mod Listing
+pub mod Lines

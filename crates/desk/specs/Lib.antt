@@ -1,0 +1,4 @@
+-- What the contracts of this crate cite. What is proved of it stands under Laws.
+pub mod Desk
+pub mod Input
+pub mod Laws

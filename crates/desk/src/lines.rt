@@ -1,0 +1,89 @@
+// A line from the fourth on.
+ghost use lib.ListN.{take};
+ghost use Rattle.model.specs.Program.{on-call, on-line};
+ghost use Rattle.line.specs.Calls.{call-said};
+ghost use Rattle.desk.specs.Desk.{desk-of, Ready, Leaves};
+use crate::MALFORMED;
+use crate::blocks;
+use crate::blocks::Step;
+use crate::calls;
+use crate::ranges;
+use line::call::Call;
+use line::call::Line;
+
+// What a call does, with the draft's first `used` bytes. What is printed stands in `out`, from its first byte on.
+fn on_call(
+    card: &mut [u8],
+    draft: &mut [u8],
+    used: usize,
+    number: u32,
+    call: Call,
+    listing: &mut [u8],
+    out: &mut [u8],
+) -> Step
+    requires { ⌜ Ready (now card) (now draft) used (now listing) (now out) ⌝ }
+    ensures { λ r. ⌜ Leaves (on-call number (desk-of (now (card .entry)) (take used (now (draft .entry)))) (call-said call)) (now (card .exit)) (now (draft .exit)) (r .used) (now (out .exit)) (r .printed) ⌝ }
+{
+    match call {
+        Call::Block(block) => blocks::add_block(draft, used, number, block, out),
+        Call::Clear => Step {
+            used: 0,
+            printed: 0,
+        },
+        Call::List => {
+            let printed = ranges::list(card, &draft[..used], number, listing, out);
+            Step {
+                used: used,
+                printed: printed,
+            }
+        }
+        Call::Choose => {
+            let printed = calls::choose(card, &draft[..used], number, out);
+            Step {
+                used: used,
+                printed: printed,
+            }
+        }
+        Call::Place {
+            task,
+            column,
+            bottom,
+        } => {
+            let printed = calls::place(card, &draft[..used], number, task, column, bottom, out);
+            Step {
+                used: used,
+                printed: printed,
+            }
+        }
+        Call::Release { task } => {
+            let printed = calls::release(card, number, task, out);
+            Step {
+                used: used,
+                printed: printed,
+            }
+        }
+    }
+}
+
+// One line, without its newline: the line number and the draft's first `used` bytes are what it finds.
+pub fn on_line(
+    card: &mut [u8],
+    draft: &mut [u8],
+    used: usize,
+    number: u32,
+    line: &[u8],
+    listing: &mut [u8],
+    out: &mut [u8],
+) -> Step
+    requires { ⌜ Ready (now card) (now draft) used (now listing) (now out) ⌝ }
+    ensures { λ r. ⌜ Leaves (on-line number (desk-of (now (card .entry)) (take used (now (draft .entry)))) (now (line .entry))) (now (card .exit)) (now (draft .exit)) (r .used) (now (out .exit)) (r .printed) ⌝ }
+{
+    let Line::Does(call) = line::call::read(line) else {
+        let printed = calls::say(out, number, MALFORMED);
+        return Step {
+            used: used,
+            printed: printed,
+        };
+    };
+    on_call(card, draft, used, number, call, listing, out)
+}

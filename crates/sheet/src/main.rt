@@ -1,0 +1,63 @@
+// The sheet: reads standard input, has `desk` do its lines one after the other, and writes what they print to standard output.
+use desk::input::Start;
+use libc::STDIN_FILENO;
+use libc::STDOUT_FILENO;
+
+// The greatest input, and one byte more, by which a longer one is known.
+const MAX_SHEET: usize = 32768;
+
+const INPUT_ROOM: usize = 32769;
+
+// Writes a line that has an answer and no range.
+fn say(line: u32, answer: i32) {
+    let mut out = [0u8; 80];
+    let n = desk::calls::say(&mut out, line, answer);
+    io::write_all(STDOUT_FILENO, &out[..n]);
+}
+
+// The lines from the fourth on, which starts at `first`.
+fn lines(input: &[u8], first: usize, card: &mut [u8]) {
+    let mut draft = [0u8; desk::DRAFT_ROOM];
+    let mut listing = [0u8; model::LIST_ROOM];
+    let mut out = [0u8; desk::OUTPUT_ROOM];
+    let mut used = 0;
+    let mut number = 4;
+    let mut at = first;
+    while at < input.len() {
+        let end = desk::input::line_end(input, at);
+        let step = desk::lines::on_line(
+            card,
+            &mut draft,
+            used,
+            number,
+            &input[at..end],
+            &mut listing,
+            &mut out,
+        );
+        used = step.used;
+        let printed = step.printed;
+        io::write_all(STDOUT_FILENO, &out[..printed]);
+        number += 1;
+        at = end + 1;
+    }
+}
+
+// The sheet on a card of its own.
+fn sheet(input: &[u8]) {
+    let mut card = [0u8; model::RECORD_SIZE];
+    match desk::input::start(input, &mut card) {
+        Start::Fault { line, answer } => say(line, answer),
+        Start::Ready(first) => lines(input, first, &mut card),
+    }
+}
+
+fn main() {
+    let mut input = [0u8; INPUT_ROOM];
+    let n = io::read_full(STDIN_FILENO, &mut input);
+    io::write_all(STDOUT_FILENO, b"line answer column first step last\n");
+    if MAX_SHEET < n {
+        say(0, desk::MALFORMED);
+        return;
+    }
+    sheet(&input[..n]);
+}
