@@ -1,7 +1,11 @@
 // The sheet: reads standard input, has `desk` do its lines one after the other, and writes what they print to standard output.
-use desk::input::Start;
+use desk::input::Begun;
 use libc::STDIN_FILENO;
 use libc::STDOUT_FILENO;
+ghost use lib.ListN.{length};
+ghost use Prim.Native.Nat.{_≤_};
+ghost use Rattle.model.specs.Limits.{max-sheet};
+ghost use Rattle.desk.specs.Desk.{Card};
 
 // The greatest input, and one byte more, by which a longer one is known.
 const MAX_SHEET: usize = 32768;
@@ -16,7 +20,9 @@ fn say(line: u32, answer: i32) {
 }
 
 // The lines from the fourth on, which starts at `first`.
-fn lines(input: &[u8], first: usize, card: &mut [u8]) {
+fn lines(input: &[u8], first: usize, card: &mut [u8])
+    requires { ⌜ (length (now input) ≤ max-sheet) × Card (now card) ⌝ }
+{
     let mut draft = [0u8; desk::DRAFT_ROOM];
     let mut listing = [0u8; model::LIST_ROOM];
     let mut out = [0u8; desk::OUTPUT_ROOM];
@@ -43,11 +49,13 @@ fn lines(input: &[u8], first: usize, card: &mut [u8]) {
 }
 
 // The sheet on a card of its own.
-fn sheet(input: &[u8]) {
+fn sheet(input: &[u8])
+    requires { ⌜ length (now input) ≤ max-sheet ⌝ }
+{
     let mut card = [0u8; model::RECORD_SIZE];
-    match desk::input::start(input, &mut card) {
-        Start::Fault { line, answer } => say(line, answer),
-        Start::Ready(first) => lines(input, first, &mut card),
+    match desk::input::begin(input, &mut card) {
+        Begun::Fault { line, answer } => say(line, answer),
+        Begun::Ready(first) => lines(input, first, &mut card),
     }
 }
 

@@ -204,3 +204,8 @@ module _ (r : List ℕ) (size : length r ≡ record-size) (ls : List (List ℕ))
           let bad : a ≡ negsuc 2 = c .answer-is ∙ ap (λ (o : Outcome (List ℕ)). o .answer) (new-bad-device r (d .rows) (d .kinds) size e) in
           let z : _≡_ {A = ℕ} 0 1 = cc bad in
           absurd (omega arith)
+
+-- where the fourth line is reached, there is a card
+pub ready-card : (b : Begun) {n : ℕ} (input card output : List ℕ) → b ≡ begun.Ready n → Begins b input card output → Card card
+ready-card (begun.Ready at) input card output e x = x .1 .1
+ready-card (begun.Fault line answer) input card output e x = let z : _≡_ {A = ℕ} 0 1 = cc in absurd (omega arith)

@@ -1,0 +1,12 @@
+-- `sheet::say` is safe: what is printed lies in its buffer. Assumes nothing.
+use borrow.Author.Needs.{needs}
+use mathlib.Core.Path.{sym}
+use lib.Seq.{length-take-le}
+use Rattle.sheet.proofs.say.Statement.{statement}
+use Rattle.sheet.proofs.say.Tie as tie
+
+slice-aggregate-write-all : tie.Need-slice-aggregate-write-all
+slice-aggregate-write-all c = sym (length-take-le _ _ (search needs))
+
+pub say-spec : {M : Type 1} → statement M
+say-spec = tie.close (tie.spec (λ c. search needs) (λ c κs. search needs) (λ c. search needs) slice-aggregate-write-all (λ c κs. search needs) (λ c. search needs))
