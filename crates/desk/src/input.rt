@@ -33,7 +33,7 @@ pub fn line_end(input: &[u8], at: usize) -> usize
 }
 
 // The card of the second line: what new answers, or that the line is malformed.
-pub fn new_card(line: &[u8], card: &mut [u8]) -> i32
+fn new_card(line: &[u8], card: &mut [u8]) -> i32
     ensures { λ r. ⌜ Opens (device-line (now (line .entry))) (now (card .entry)) r (now (card .exit)) ⌝ }
 {
     let mut kinds = [0u8; 80];

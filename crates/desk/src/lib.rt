@@ -1,10 +1,13 @@
 // The sheet's desk: a card's record and a draft task, and what each line of a sheet does to them and prints.
 // Each function's contract is document 01's line by the book (model/specs/Program.antt); the program `sheet` only reads and writes.
 pub mod input; // where lines end, and the first three lines
-pub mod blocks; // B
-pub mod calls; // C, P and R
-pub mod ranges; // L
+mod blocks; // B
+mod calls; // C, P and R
+mod ranges; // L
 pub mod lines; // a line from the fourth on
+
+pub use blocks::Step;
+pub use calls::say;
 
 // The bytes of the greatest draft.
 pub const DRAFT_ROOM: usize = 192;

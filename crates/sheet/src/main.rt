@@ -15,7 +15,7 @@ const INPUT_ROOM: usize = 32769;
 // Writes a line that has an answer and no range.
 fn say(line: u32, answer: i32) {
     let mut out = [0u8; 80];
-    let n = desk::calls::say(&mut out, line, answer);
+    let n = desk::say(&mut out, line, answer);
     io::write_all(STDOUT_FILENO, &out[..n]);
 }
 
