@@ -3,7 +3,7 @@ ghost use mathlib.Core.Path.{_≡_};
 ghost use Prim.Native.Nat.{_+_, _*_, _≤_};
 ghost use lib.ListN.{length};
 ghost use Rattle.model.specs.Limits.{range-size};
-ghost use Rattle.model.specs.Laws.RangeBytes.{ranges-in};
+ghost use Rattle.model.specs.Calls.{ranges-in};
 ghost use Rattle.model.specs.Sheet.{list-draft};
 ghost use Rattle.model.specs.Program.{shows, on-call};
 ghost use Rattle.line.specs.Print.{Printed};

@@ -1,16 +1,16 @@
 -- Document 01, "Calls on one record", its table of refusals, and "Histories and their book": each call on the book, its answer, the bytes that it
 -- writes, and the book after it. Nothing here reads a record. Assumes nothing.
-use Prim.Native.Nat.{ℕ, _+_, _*_}
+use Prim.Native.Nat.{ℕ, zero, suc, _+_, _*_}
 use mathlib.Core.Bool.{Bool, not, cond, _||_}
 use mathlib.Core.Option.{Option, none, some}
 use mathlib.Core.List.{List, [], _∷_, _++_}
 use lib.Dec.{ltb, eqb, leb}
 use lib.IntN.{ℤ, pos, negsuc, negℤ}
-use lib.ListN.{length, drop}
-use Rattle.model.specs.Limits.{max-running, list-room, column-weight}
+use lib.ListN.{length, getD, drop}
+use Rattle.model.specs.Limits.{max-running, range-size, list-room, column-weight}
 use Rattle.model.specs.Bounded.{any-below, any-in, join-in}
 use Rattle.model.specs.Columns.{Device, columns, half-rows}
-use Rattle.model.specs.Tasks.{sized, well-formed}
+use Rattle.model.specs.Tasks.{word, sized, well-formed}
 use Rattle.model.specs.Book.{Running, Book, fits, fits-at}
 use Rattle.model.specs.Listing.{Range, ranges}
 use Rattle.model.specs.Choice.{Found, nothing, at, chosen}
@@ -93,6 +93,11 @@ running t n p y = record { number = n; column = p; bottom = natural y; task = t 
 -- "ranges of 6 bytes: column (1), step (1), first (2), last (2)"
 unfoldable pub range-bytes : Range → List ℕ
 range-bytes r = (r .column ∷ r .step ∷ []) ++ bytes16 (r .first) ++ bytes16 (r .last)
+
+-- the first n ranges that such bytes say
+unfoldable pub ranges-in : ℕ → List ℕ → List Range
+ranges-in zero o = []
+ranges-in (suc n) o = record { column = getD o 0 0; step = getD o 1 0; first = word o 2; last = word o 4 } ∷ ranges-in n (drop range-size o)
 
 -- the bytes of o with l written over their front: "bytes after them stay"
 unfoldable pub over : List ℕ → List ℕ → List ℕ

@@ -22,12 +22,12 @@ use Rattle.model.specs.Book.{Book}
 use Rattle.model.specs.Listing.{Range, ranges}
 use Rattle.model.specs.Record.{record-of, device-of, book-of, bytes16}
 use Rattle.model.specs.Sound.{within}
-use Rattle.model.specs.Calls.{Call, list, Outcome, Refusal, refuse, refused, refusals, no-position, unless, lent, done, on-book, range-bytes, over}
+use Rattle.model.specs.Calls.{Call, list, Outcome, Refusal, refuse, refused, refusals, no-position, unless, lent, done, on-book, range-bytes, ranges-in, over}
 use Rattle.model.specs.OnRecord.{written, on-record}
 use Rattle.model.specs.Sheet.{list-draft, output-line}
 use Rattle.model.specs.Program.{Desk, says, shows, listed, on-call}
 use Rattle.model.specs.Laws.Listing.{join-append}
-use Rattle.model.specs.Laws.RangeBytes.{ranges-in, read-ranges}
+use Rattle.model.specs.Laws.RangeBytes.{read-ranges}
 use Rattle.model.specs.Laws.Step.{same-step}
 use Rattle.desk.specs.Desk.{desk-of, Card, Room, range-at, range-line}
 

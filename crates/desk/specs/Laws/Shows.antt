@@ -9,7 +9,7 @@ use lib.Seq.{take-at, length-take-le}
 use Rattle.model.specs.Laws.Parts.{splice, splice-none}
 use Rattle.model.specs.Bounded.{join-in}
 use Rattle.model.specs.Program.{shows}
-use Rattle.model.specs.Laws.RangeBytes.{ranges-in}
+use Rattle.model.specs.Calls.{ranges-in}
 use Rattle.line.specs.Print.{Printed}
 use Rattle.desk.specs.Desk.{Shows}
 

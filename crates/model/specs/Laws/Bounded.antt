@@ -7,6 +7,7 @@ use mathlib.Core.List.{List, [], _∷_, _++_, map}
 use native.Mathlib.Omega.{arith}
 use Rattle.runs.specs.Laws.Tests.{lt-or-ge}
 use Rattle.model.specs.Bounded.{all-below, any-below, sum-below, all-in, any-in, sum-in}
+pub use Rattle.model.specs.Bounded.{In}
 
 -- ---- tests
 
@@ -161,11 +162,6 @@ sum-front zero f = refl
 sum-front (suc n) f = let e : 0 + n ≡ n = omega arith in omega (arith, sum-front n f, from-end 0 n f, ap f e)
 
 -- ---- over a list
-
--- x is one of the list
-abbrev pub In : {A : Type 0} → A → List A → Type 0
-In x [] = ⊥
-In x (y ∷ L) = (x ≡ y) ⊎ In x L
 
 pub all-in-to : {A : Type 0} (p : A → Bool) (l : List A) → all-in p l ≡ true → (x : A) → In x l → p x ≡ true
 unfolding all-in

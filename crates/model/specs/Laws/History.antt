@@ -23,56 +23,14 @@ use Rattle.model.specs.Sound.{number-ok, rising, task-ok, apart, book-ok
 use Rattle.model.specs.Calls.{Call, list, choose, Outcome, range-bytes, over, refused, no-position, unless, on-book}
 use Rattle.model.specs.OnRecord.{written, on-record, new}
 use Rattle.model.specs.History.{Trace, trace, on-records, book-of-history}
+use Rattle.model.specs.Demand3.{AllOnCells, device, Listed, History}
 use Rattle.model.specs.Laws.Bounded.{In, and-to, and5-to, is-false}
 use Rattle.model.specs.Laws.Listing.{listing-names}
-use Rattle.model.specs.Laws.OnCells.{AllOnCells, fitting-cells, nowhere-cells}
-use Rattle.model.specs.Laws.RangeBytes.{ranges-in, read-ranges}
+use Rattle.model.specs.Laws.OnCells.{fitting-cells, nowhere-cells}
+use Rattle.model.specs.Laws.RangeBytes.{read-ranges}
 use Rattle.model.specs.Laws.Step.{same-step, Fine, not-bad, list-done, list-none, choose-none}
 use Rattle.model.specs.Laws.Kept.{within-new, kept, apart-cells}
 use Rattle.model.specs.Laws.Same.{same-records}
-
--- ---- the claim
-
--- the device that new is given
-abbrev pub device : ℕ → List ℕ → Device
-device rows kinds = record { rows = rows; kinds = kinds }
-
--- L is what the listing of task t into output o leaves, on a record r with the book b
-pub record Listed (d : Device) (b : Book) (r t o : List ℕ) (L : Outcome (List ℕ)) : Type 0 where
-  -- "The answer is their number", "writes the task's ranges", "bytes after them stay", "leave the record"
-  pub answer : L .answer ≡ pos (length (ranges d b t))
-  pub output : L .output ≡ over (join-in range-bytes (ranges d b t)) o
-  pub state : L .state ≡ r
-  -- these are the ranges that its bytes say, and they name the fitting positions, "each once, by column and then by bottom"
-  pub said : ranges-in (length (ranges d b t)) (L .output) ≡ ranges d b t
-  pub names : join-in named (ranges d b t) ≡ fitting d b t
-
--- R is what the calls gave on the record, B what they gave in the book
-pub record History (d : Device) (R : Trace (List ℕ)) (B : Trace Book) : Type 0 where
-  -- "Every call answers, and every listing writes, exactly what document 01's book gives"
-  pub answers : R .answers ≡ B .answers
-  pub outputs : R .outputs ≡ B .outputs
-  -- "No call finds the record too short, too long or not sound."
-  pub no-bad-record : (a : ℤ) → In a (R .answers) → ¬ (a ≡ negℤ (pos 1)) × ¬ (a ≡ negℤ (pos 2))
-  -- "After the list no two running tasks hold one cell"; no number runs twice
-  pub rising : rising (B .final) ≡ true
-  pub apart : (e f : Running) → In e (B .final) → In f (B .final) → ¬ (e .number ≡ f .number)
-      → (c k : ℕ) → holds-cell d e c k ≡ true → holds-cell d f c k ≡ true → ⊥
-  -- "and the record equals the book's, byte for byte"
-  pub same-bytes : R .final ≡ record-of d (B .final)
-  -- "The listing of any well-formed task, given a long enough output, then names .. each once, by column and then by bottom"
-  pub listing : (t o : List ℕ) → sized t ≡ true → well-formed t ≡ true → list-room ≤ length o → (p y : ℕ) → AllOnCells d (B .final) t p y
-      → Listed d (B .final) (R .final) t o (on-record (R .final) (list t o))
-  -- "exactly the positions at which all its blocks fit cells that the book has free"
-  pub positions : (t : List ℕ) → sized t ≡ true → well-formed t ≡ true → (p y : ℕ) → In (position p y) (fitting d (B .final) t) ↔ AllOnCells d (B .final) t p y
-  -- "That listing, and a choice for that task, answer "no position" exactly when no such position exists."
-  pub list-none : (t o : List ℕ) → sized t ≡ true → well-formed t ≡ true → list-room ≤ length o
-      → (on-record (R .final) (list t o) .answer ≡ negℤ (pos 9)) ↔ ((p y : ℕ) → ¬ (AllOnCells d (B .final) t p y))
-  pub choose-none : (t : List ℕ) → sized t ≡ true → well-formed t ≡ true
-      → (on-record (R .final) (choose t) .answer ≡ negℤ (pos 9)) ↔ ((p y : ℕ) → ¬ (AllOnCells d (B .final) t p y))
-  -- "Two such lists on the same device that end with the same tasks, under the same numbers at the same positions, end with equal records."
-  pub alike : (r : List ℕ) → new r (d .rows) (d .kinds) .answer ≡ pos 0 → (cs : List Call)
-      → ((e : Running) → In e (B .final) ↔ In e (book-of-history d cs .final)) → R .final ≡ on-records (new r (d .rows) (d .kinds) .state) cs .final
 
 -- ---- the start
 

@@ -1,4 +1,4 @@
--- To fit in words of cells: each block stands in a column of its kind, on its grid, and every cell that it covers is free. Assumes nothing.
+-- A task fits just where all its blocks fit cells that the book has free. Assumes nothing.
 use Prim.Native.Nat.{ℕ, _+_, _-_, _*_, _/_, _%_, _≤_, _<_}
 use mathlib.Core.Path.{_≡_, sym, ap, _∙_}
 use mathlib.Core.Logic.{_↔_}
@@ -13,6 +13,7 @@ use Rattle.model.specs.Book.{Book, free, fits, cell-free}
 use Rattle.model.specs.Listing.{position, fitting}
 use Rattle.model.specs.Calls.{no-position}
 use Rattle.model.specs.Sound.{within}
+use Rattle.model.specs.Demand3.{OnCells, AllOnCells}
 use Rattle.model.specs.Laws.Bounded.{In, is-false, clash}
 use Rattle.model.specs.Laws.Columns.{height-pos}
 use Rattle.model.specs.Laws.Tasks.{full-block, sized-to}
@@ -21,19 +22,6 @@ use Rattle.model.specs.Laws.Cells.{free-cell}
 use Rattle.model.specs.Laws.Split.{free-to}
 use Rattle.model.specs.Laws.Listing.{in-fitting}
 use Rattle.model.specs.Laws.NoPosition.{nowhere-to, nowhere-of}
-
--- block k, moved by p and y, "stands in a device column of its kind, starts at a multiple of its height, not below 0, .. and covers only free cells".
--- Cell m begins at half row height × m. That the block ends at or below the top of the last cell follows, since a free cell is a cell of the device.
-pub record OnCells (d : Device) (b : Book) (k : Block) (p y : ℕ) : Type 0 where
-  pub column : p + k .column < columns d
-  pub kind : kind d (p + k .column) ≡ k .kind
-  pub above : reach ≤ y + k .low
-  pub grid : (y + k .low - reach) % height (k .kind) ≡ 0
-  pub free : (m : ℕ) → y + k .low - reach ≤ height (k .kind) * m → height (k .kind) * m < y + k .high - reach → cell-free d b (p + k .column) m ≡ true
-
--- all blocks of the task do
-abbrev pub AllOnCells : Device → Book → List ℕ → ℕ → ℕ → Type 0
-AllOnCells d b t p y = (k : ℕ) → k < blocks t → OnCells d b (block t k) p y
 
 -- what begins on the grid and at or below z begins at or below z's cell
 grid-below : (h a z : ℕ) → 1 ≤ h → a % h ≡ 0 → a ≤ z → a ≤ h * (z / h)

@@ -16,15 +16,10 @@ use Rattle.model.specs.Book.{Book, fits}
 use Rattle.model.specs.Listing.{Range, range-of, ranges}
 use Rattle.model.specs.Record.{bytes16}
 use Rattle.model.specs.Sound.{within}
-use Rattle.model.specs.Calls.{range-bytes, over}
+use Rattle.model.specs.Calls.{range-bytes, ranges-in, over}
 use Rattle.model.specs.Laws.Tasks.{sized-to}
 use Rattle.model.specs.Laws.Steps.{fits-steps}
 use Rattle.model.specs.Laws.Limits.{limits-to}
-
--- the first n ranges that bytes say: "ranges of 6 bytes: column (1), step (1), first (2), last (2)"
-unfoldable pub ranges-in : ℕ → List ℕ → List Range
-ranges-in zero o = []
-ranges-in (suc n) o = record { column = getD o 0 0; step = getD o 1 0; first = word o 2; last = word o 4 } ∷ ranges-in n (drop range-size o)
 
 -- both ends of each range fit into two bytes
 abbrev Small : List Range → Type 0

@@ -12,7 +12,7 @@ use Rattle.signed.proofs.Signed.{read, naturals}
 use Rattle.model.specs.Limits.{range-size, list-room}
 use Rattle.model.specs.Sheet.{list-draft}
 use Rattle.model.specs.Program.{shows, on-call}
-use Rattle.model.specs.Laws.RangeBytes.{ranges-in}
+use Rattle.model.specs.Calls.{ranges-in}
 use Rattle.desk.specs.Desk.{desk-of}
 use Rattle.desk.specs.Laws.Listing.{list-refused, list-done}
 use Rattle.desk.proofs.ranges.list.Statement.{statement}

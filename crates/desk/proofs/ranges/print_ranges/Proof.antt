@@ -7,7 +7,7 @@ use lib.ListN.{length}
 use mir.Syntax.{w32}
 use mir.Val.{toZ, ofZ}
 use mir.Facts.{toZ-ofZ}
-use Rattle.model.specs.Laws.RangeBytes.{ranges-in}
+use Rattle.model.specs.Calls.{ranges-in}
 use Rattle.model.specs.Program.{shows}
 use Rattle.line.specs.Print.{Printed}
 use Rattle.line.specs.Laws.Print.{printed-more}
