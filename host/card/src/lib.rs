@@ -56,6 +56,7 @@
 mod builder;
 #[allow(unsafe_code)]
 pub mod bytes;
+mod calls;
 mod card;
 mod device;
 mod interval;

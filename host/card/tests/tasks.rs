@@ -2,8 +2,11 @@
 
 use card::{Block, Kind, Task};
 
-/// Blocks as column, kind, bottom and top, and the bytes that document 01 has for them.
-const TASKS: [(&[(u8, Kind, i16, i16)], &[u8]); 4] = [
+/// A block as column, kind, bottom and top.
+type Values = (u8, Kind, i16, i16);
+
+/// Blocks, and the bytes that document 01 has for them.
+const TASKS: [(&[Values], &[u8]); 4] = [
     (&[(0, Kind::C, 0, 2)], &[0, 0, 0, 0, 2, 0]),
     (
         &[(0, Kind::C, 0, 2), (1, Kind::C, -2, 2), (2, Kind::B, 1, 6)],
