@@ -45,6 +45,10 @@
 //! # Ok::<(), Refusal>(())
 //! ```
 //!
+//! `rt staticlib card`, in the root of the repository, proves and builds the
+//! library that this crate links; after that a package needs only
+//! `card = { path = "host/card" }`. `examples/first_card.rs` is a longer tour.
+//!
 //! Under [`Card`] are two more layers: [`bytes`] has the same calls on byte
 //! slices with document 01's answers, and [`raw`] the functions themselves.
 //! `host/card.h` declares these for C.

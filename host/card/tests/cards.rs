@@ -80,6 +80,8 @@ fn what_a_card_holds() {
     assert_eq!(free(1), [interval(0, 2), interval(6, 10)]);
     assert_eq!(free(2), [interval(0, 5)]);
     assert_eq!(card.interval_count(1), Ok(2));
+    let within: Vec<i16> = (-1..11).filter(|&y| interval(6, 10).contains(y)).collect();
+    assert_eq!(within, [6, 7, 8, 9]);
     let opened = Card::open(card.as_bytes()).expect("a sound record");
     assert_eq!(opened.device(), &device());
 }

@@ -22,6 +22,12 @@ static void list(const uint8_t *task, size_t task_len) {
     }
 }
 
+/* Chooses a position for a task and prints it. */
+static void choose(const uint8_t *task, size_t task_len) {
+    int32_t answer = card_choose(record, sizeof record, task, task_len);
+    printf("choose column %d bottom %d\n", (int)(answer / CARD_COLUMN_WEIGHT), (int)(answer % CARD_COLUMN_WEIGHT));
+}
+
 static void example(void) {
     const uint8_t kinds[] = {CARD_KIND_C, CARD_KIND_C, CARD_KIND_B};
     const uint8_t three[] = {
@@ -29,14 +35,16 @@ static void example(void) {
         1, CARD_KIND_C, 0xFE, 0xFF, 2, 0, /* from -2 */
         2, CARD_KIND_B, 1,    0,    6, 0,
     };
-    const uint8_t tall[] = {0, CARD_KIND_C, 0, 0, 4, 0};
+    const uint8_t tall[CARD_BLOCK_SIZE] = {0, CARD_KIND_C, 0, 0, 4, 0};
+    const uint8_t memory[CARD_BLOCK_SIZE] = {0, CARD_KIND_B, 0, 0, 5, 0};
 
     printf("new %d\n", (int)card_new(record, sizeof record, 5, kinds, sizeof kinds));
     list(three, sizeof three);
     printf("place %d\n", (int)card_place(record, sizeof record, three, sizeof three, 7, 0, 4));
     list(three, sizeof three);
     list(tall, sizeof tall);
-    printf("choose %d\n", (int)card_choose(record, sizeof record, tall, sizeof tall));
+    choose(tall, sizeof tall);
+    choose(memory, sizeof memory);
     printf("intervals %d\n", (int)card_interval_count(record, sizeof record, 0));
     printf("release %d\n", (int)card_release(record, sizeof record, 8));
     printf("release %d\n", (int)card_release(record, sizeof record, 7));

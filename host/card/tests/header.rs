@@ -15,7 +15,8 @@ list 3
   column 0 first 0 last 0
   column 0 first 6 last 6
   column 1 first 6 last 6
-choose 0
+choose column 0 bottom 0
+choose column 2 bottom 0
 intervals 2
 release -11
 release 0
