@@ -80,7 +80,7 @@ macro_rules! implementation {
 
 implementation!(Oracle, oracle::calls, "oracle");
 implementation!(Plain, plain, "plain");
-implementation!(Card, card, "proved");
+implementation!(Card, card::bytes, "proved");
 
 /// The implementations that are tried and measured, the one in question first.
 pub const SUBJECTS: [&dyn Calls; 2] = [&Card, &Plain];

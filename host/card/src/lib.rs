@@ -1,98 +1,92 @@
-//! Safe Rust over the proved card library.
+//! Where circuits may go on an FPGA card of mixed columns: Rust over the proved library.
 //!
-//! The library itself is written in Rattle and proved; this crate calls it
-//! through the C calling form. Each function takes any arguments at all: what
-//! document 01's table refuses is refused by its number, and no byte changes.
-//! [`outcome`] turns an answer into a `Result`.
+//! The library itself is written in Rattle and proved against document 01;
+//! this crate calls it through the C calling form and adds types, and decides
+//! nothing about placement itself.
+//!
+//! A [`Device`] has rows, and columns of a [`Kind`]: C (logic), B (memory) or D
+//! (multiplier). Heights are counted in half rows: a cell of C is 2 high, one of
+//! B or D is 5. A circuit is a [`Task`]: blocks of whole cells, relative to the
+//! first one. A [`Card`] holds one device with its running tasks. It lists the
+//! [`Position`]s at which a task fits, chooses the best one, places a task
+//! there under a number, and releases it again. What can't be done is refused
+//! with a [`Refusal`], and then nothing has changed.
 //!
 //! ```
-//! let mut record = vec![0; card::RECORD_SIZE];
-//! assert_eq!(card::new(&mut record, 5, &[0]), 0);
-//! // One logic block of one cell, placed at half row 4 of column 0.
-//! let task = [0, 0, 0, 0, 2, 0];
-//! assert_eq!(card::place(&mut record, &task, 7, 0, 4), 0);
-//! assert_eq!(card::interval_count(&record, 0), 2);
-//! assert_eq!(card::release(&mut record, 7), 0);
-//! assert_eq!(card::choose(&record, &task), 0);
+//! use card::{Card, Device, Kind, Refusal, Task, LIST_ROOM};
+//!
+//! // 5 rows; two columns of logic, one of memory.
+//! let device = Device::new(5, &[Kind::C, Kind::C, Kind::B])?;
+//! let mut card = Card::new(&device);
+//!
+//! // A circuit of three blocks: column, kind, bottom and top.
+//! let task = Task::builder()
+//!     .block(0, Kind::C, 0, 2)
+//!     .block(1, Kind::C, -2, 2)
+//!     .block(2, Kind::B, 1, 6)
+//!     .build()?;
+//!
+//! // Where does it fit? Only at column 0, bottom 4.
+//! let mut output = [0; LIST_ROOM];
+//! for range in card.list(&task, &mut output)? {
+//!     for position in range.positions() {
+//!         assert_eq!(position.to_string(), "column 0, bottom 4");
+//!     }
+//! }
+//!
+//! // Load it there as number 7. There is no position for another one.
+//! let best = card.choose(&task)?;
+//! card.place(&task, 7, best)?;
+//! assert_eq!(card.choose(&task), Err(Refusal::NoPosition));
+//!
+//! // Unload it.
+//! card.release(7)?;
+//! assert_eq!(card.choose(&task), Ok(best));
+//! # Ok::<(), Refusal>(())
 //! ```
+//!
+//! `rt staticlib card`, in the root of the repository, proves and builds the
+//! library that this crate links; after that a package needs only
+//! `card = { path = "host/card" }`. `examples/first_card.rs` is a longer tour.
+//!
+//! Under [`Card`] are two more layers: [`bytes`] has the same calls on byte
+//! slices with document 01's answers, and [`raw`] the functions themselves.
+//! `host/card.h` declares these for C.
 
 #![deny(missing_docs)]
 #![deny(unsafe_op_in_unsafe_fn)]
+#![deny(unsafe_code)]
 
-mod raw;
+mod builder;
+#[allow(unsafe_code)]
+pub mod bytes;
+mod calls;
+mod card;
+mod device;
+mod interval;
+mod kind;
+mod layout;
+mod listing;
+mod parts;
+mod position;
+pub mod raw;
 mod refusal;
+mod running;
+mod task;
 
+pub use builder::TaskBuilder;
+pub use card::Card;
+pub use device::Device;
+pub use interval::{Interval, Intervals};
+pub use kind::Kind;
+pub use layout::{LIST_ROOM, MAX_BLOCKS, MAX_COLUMNS, MAX_ROWS, MAX_RUNNING, RECORD_SIZE};
+pub use listing::{Positions, Range, Ranges};
+pub use position::Position;
 pub use refusal::{outcome, Refusal};
+pub use running::{Running, RunningTasks};
+pub use task::{Block, Blocks, Task};
 
-/// The bytes of a record.
-pub const RECORD_SIZE: usize = 29_188;
-/// The bytes of the shortest output that list takes.
-pub const LIST_ROOM: usize = 24_576;
-
-/// New: writes the record of a device of so many rows, with a column for each kind byte
-/// (0 logic, 1 memory, 2 multiplier), and all cells free. Answers 0, −1 or −3.
-pub fn new(record: &mut [u8], rows: u32, kinds: &[u8]) -> i32 {
-    // SAFETY: each pointer goes with the length of the slice it comes from, and the
-    // callee, proved to stay within them, keeps neither.
-    unsafe {
-        raw::card_new(
-            record.as_mut_ptr(),
-            record.len(),
-            rows,
-            kinds.as_ptr(),
-            kinds.len(),
-        )
-    }
-}
-
-/// Place: enters the task as running under a number, at a column and a bottom in half rows,
-/// and takes its cells. Answers 0, −1, −2, −4, −5, −7, −8 or −10.
-pub fn place(record: &mut [u8], task: &[u8], number: u32, column: u32, bottom: i32) -> i32 {
-    // SAFETY: as in `new`.
-    unsafe {
-        raw::card_place(
-            record.as_mut_ptr(),
-            record.len(),
-            task.as_ptr(),
-            task.len(),
-            number,
-            column,
-            bottom,
-        )
-    }
-}
-
-/// Release: frees the cells of a running task and removes it. Answers 0, −1, −2 or −11.
-pub fn release(record: &mut [u8], number: u32) -> i32 {
-    // SAFETY: as in `new`.
-    unsafe { raw::card_release(record.as_mut_ptr(), record.len(), number) }
-}
-
-/// List: writes the ranges of positions at which a task fits, 6 bytes each, and answers
-/// their number, or −1, −2, −4, −5, −6 or −9. Bytes after the ranges stay.
-pub fn list(record: &[u8], task: &[u8], output: &mut [u8]) -> i32 {
-    // SAFETY: as in `new`.
-    unsafe {
-        raw::card_list(
-            record.as_ptr(),
-            record.len(),
-            task.as_ptr(),
-            task.len(),
-            output.as_mut_ptr(),
-            output.len(),
-        )
-    }
-}
-
-/// Choose: answers the best position of a task as column × 1,024 + bottom, or −1, −2, −4,
-/// −5 or −9.
-pub fn choose(record: &[u8], task: &[u8]) -> i32 {
-    // SAFETY: as in `new`.
-    unsafe { raw::card_choose(record.as_ptr(), record.len(), task.as_ptr(), task.len()) }
-}
-
-/// Interval count: answers how many free intervals a column has, or −1, −2 or −3.
-pub fn interval_count(record: &[u8], column: u32) -> i32 {
-    // SAFETY: as in `new`.
-    unsafe { raw::card_interval_count(record.as_ptr(), record.len(), column) }
-}
+/// The Rust of the README, run as a test.
+#[cfg(doctest)]
+#[doc = include_str!("../../../README.md")]
+struct Readme;

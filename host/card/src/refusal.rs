@@ -2,7 +2,20 @@
 
 use std::fmt;
 
-/// A refusal; its discriminant is the number that the table returns for it.
+/// Why a call did nothing; the discriminant is the number that document 01's table returns for it.
+///
+/// Where several apply, the one nearest to 0 is given. No byte changes on a refusal.
+///
+/// ```
+/// use card::Refusal;
+///
+/// assert_eq!(Refusal::NoPosition.number(), -9);
+/// assert_eq!(Refusal::from_number(-9), Some(Refusal::NoPosition));
+/// assert_eq!(Refusal::NoPosition.to_string(), "no position fits (-9)");
+/// ```
+// Not `non_exhaustive`: the table says that these are the only ones. A later
+// request that adds one changes the calls too, and then a `match` in the server
+// should fail to compile, and not fall into a `_` arm.
 #[derive(Clone, Copy, Debug, PartialEq, Eq, Hash)]
 #[repr(i32)]
 pub enum Refusal {
@@ -10,7 +23,7 @@ pub enum Refusal {
     RecordLength = -1,
     /// The record is not sound.
     RecordNotSound = -2,
-    /// New: rows, kind count or a kind is out of its limits. Interval count: no such column.
+    /// New: rows not 1 to 128, kind count not 1 to 64, or no such kind. Interval count: no such column.
     DeviceOrColumn = -3,
     /// The task bytes are 0, over 192, or no multiple of 6.
     TaskLength = -4,
@@ -24,7 +37,7 @@ pub enum Refusal {
     Full = -8,
     /// List and choose: no position fits.
     NoPosition = -9,
-    /// Place: the task does not fit there.
+    /// Place: the task does not fit there, positions off the device included.
     Misfit = -10,
     /// Release: the number is not running.
     NotRunning = -11,
@@ -88,7 +101,7 @@ impl fmt::Display for Refusal {
 
 impl std::error::Error for Refusal {}
 
-/// An answer as what a call gives, or its refusal.
+/// The answer of a call of [`bytes`](crate::bytes) as what it gives, or its refusal.
 ///
 /// # Panics
 /// On a number that no call answers.

@@ -1,0 +1,129 @@
+//! The calls on a card: place and release, list and choose, and the free intervals of a column.
+
+use crate::bytes;
+use crate::layout::{COLUMN_SIZE, INTERVALS_AT, INTERVAL_SIZE, RANGE_SIZE};
+use crate::{outcome, Card, Intervals, Position, Ranges, Refusal, Task};
+
+impl<B: AsRef<[u8]> + AsMut<[u8]>> Card<B> {
+    /// Place: enters the task as running under a number, and takes its cells.
+    ///
+    /// Refuses with −5, −7 (number 0, or running), −8 (64 tasks run) or −10
+    /// (it does not fit there).
+    ///
+    /// ```
+    /// use card::{Card, Device, Kind, Position, Refusal, Task};
+    ///
+    /// let mut card = Card::new(&Device::new(5, &[Kind::C])?);
+    /// let task = Task::of(Kind::C, 2);
+    /// card.place(&task, 7, Position { column: 0, bottom: 4 })?;
+    ///
+    /// let odd = Position { column: 0, bottom: 1 };
+    /// assert_eq!(card.place(&task, 8, odd), Err(Refusal::Misfit));
+    /// # Ok::<(), Refusal>(())
+    /// ```
+    pub fn place(&mut self, task: &Task, number: u16, position: Position) -> Result<(), Refusal> {
+        let Position { column, bottom } = position;
+        let record = self.bytes.as_mut();
+        let answer = bytes::place(
+            record,
+            task.as_bytes(),
+            number.into(),
+            column.into(),
+            bottom.into(),
+        );
+        outcome(answer).map(|_| ())
+    }
+
+    /// Release: frees the cells of a running task, joined to free neighbours on
+    /// both sides, and removes it; −11 where the number is not running.
+    ///
+    /// ```
+    /// use card::{Card, Device, Kind, Position, Task};
+    ///
+    /// let mut card = Card::new(&Device::new(5, &[Kind::C])?);
+    /// card.place(&Task::of(Kind::C, 2), 7, Position { column: 0, bottom: 4 })?;
+    /// assert_eq!(card.interval_count(0), Ok(2));
+    /// card.release(7)?;
+    /// assert_eq!(card.interval_count(0), Ok(1));
+    /// # Ok::<(), card::Refusal>(())
+    /// ```
+    pub fn release(&mut self, number: u16) -> Result<(), Refusal> {
+        outcome(bytes::release(self.bytes.as_mut(), number.into())).map(|_| ())
+    }
+}
+
+impl<B: AsRef<[u8]>> Card<B> {
+    /// List: all positions at which the task fits, as ranges by column and then by first.
+    ///
+    /// The ranges are written into the output, [`LIST_ROOM`](crate::LIST_ROOM) bytes or more,
+    /// and read from there. Refuses with −5, −6 (the output is too short) or
+    /// −9 (no position fits).
+    ///
+    /// ```
+    /// use card::{Card, Device, Kind, Task, LIST_ROOM};
+    ///
+    /// let card = Card::new(&Device::new(10, &[Kind::C, Kind::B])?);
+    /// let task = Task::builder()
+    ///     .block(0, Kind::C, 0, 2)
+    ///     .block(1, Kind::B, 0, 5)
+    ///     .build()?;
+    /// let mut output = [0; LIST_ROOM];
+    /// let ranges = card.list(&task, &mut output)?;
+    /// let bottoms: Vec<i16> = ranges
+    ///     .flat_map(|range| range.positions())
+    ///     .map(|position| position.bottom)
+    ///     .collect();
+    /// assert_eq!(bottoms, [0, 10]);
+    /// # Ok::<(), card::Refusal>(())
+    /// ```
+    pub fn list<'a>(&self, task: &Task, output: &'a mut [u8]) -> Result<Ranges<'a>, Refusal> {
+        let count = outcome(bytes::list(self.as_bytes(), task.as_bytes(), output))?;
+        Ok(Ranges::of(&output[..RANGE_SIZE * count as usize]))
+    }
+
+    /// Choose: the best of all positions at which the task fits.
+    ///
+    /// That is the one with document 01's least n / s: few free intervals left
+    /// over (n) of the intervals that it cuts, and these high (s). Of equals
+    /// it is the lowest column, then the lowest bottom.
+    ///
+    /// Refuses with −5 or −9 (no position fits).
+    ///
+    /// ```
+    /// use card::{Card, Device, Kind, Position, Task};
+    ///
+    /// let card = Card::new(&Device::new(5, &[Kind::C, Kind::B])?);
+    /// let best = card.choose(&Task::of(Kind::B, 5))?;
+    /// assert_eq!(best, Position { column: 1, bottom: 0 });
+    /// # Ok::<(), card::Refusal>(())
+    /// ```
+    pub fn choose(&self, task: &Task) -> Result<Position, Refusal> {
+        let answer = bytes::choose(self.as_bytes(), task.as_bytes());
+        outcome(answer).map(Position::of_answer)
+    }
+
+    /// How many free intervals a column has; −3 where there is no such column.
+    pub fn interval_count(&self, column: u8) -> Result<usize, Refusal> {
+        let answer = bytes::interval_count(self.as_bytes(), column.into());
+        outcome(answer).map(|count| count as usize)
+    }
+
+    /// The free intervals of a column, upwards, read where they stand in the
+    /// record; −3 where there is no such column.
+    ///
+    /// ```
+    /// use card::{Card, Device, Interval, Kind, Position, Task};
+    ///
+    /// let mut card = Card::new(&Device::new(5, &[Kind::C])?);
+    /// card.place(&Task::of(Kind::C, 2), 7, Position { column: 0, bottom: 4 })?;
+    /// let free: Vec<Interval> = card.intervals(0)?.collect();
+    /// assert_eq!(free, [Interval { bottom: 0, top: 4 }, Interval { bottom: 6, top: 10 }]);
+    /// # Ok::<(), card::Refusal>(())
+    /// ```
+    pub fn intervals(&self, column: u8) -> Result<Intervals<'_>, Refusal> {
+        let count = self.interval_count(column)?;
+        let start = INTERVALS_AT + COLUMN_SIZE * usize::from(column);
+        let part = &self.as_bytes()[start..start + INTERVAL_SIZE * count];
+        Ok(Intervals::of(part))
+    }
+}

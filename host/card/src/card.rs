@@ -1,0 +1,147 @@
+//! A card: one record, made anew or opened, and what it holds.
+
+use std::fmt;
+
+use crate::bytes;
+use crate::layout::{ENTRIES_AT, ENTRY_SIZE, RECORD_SIZE, RUNNING_AT};
+use crate::{outcome, Device, Refusal, RunningTasks};
+
+/// A card: a device, the tasks that run on it, and which cells are free; kept as document 01's record.
+///
+/// The record's bytes are the card's own (`Card`), or any that it is lent:
+/// `&mut [u8]`, or `&[u8]` for the calls that only read. No call allocates.
+///
+/// A card is sound from [`new`](Card::new), [`new_in`](Card::new_in) or
+/// [`open`](Card::open) on, and its calls keep it sound; so, where nobody else
+/// writes the bytes, none of them refuses it with −1 or −2. The calls are the
+/// proved library's: a refused one changes no byte, no two running tasks hold
+/// one cell, and a task is listed exactly where it fits.
+///
+/// ```
+/// use card::{Card, Device, Kind, Refusal, Task};
+///
+/// let mut card = Card::new(&Device::new(5, &[Kind::C])?);
+/// let task = Task::of(Kind::C, 4);
+/// let best = card.choose(&task)?;
+/// card.place(&task, 7, best)?;
+///
+/// // Its number is taken now.
+/// assert_eq!(card.place(&task, 7, best), Err(Refusal::BadNumber));
+///
+/// card.release(7)?;
+/// assert_eq!(card.release(7), Err(Refusal::NotRunning));
+/// # Ok::<(), Refusal>(())
+/// ```
+#[derive(Clone)]
+pub struct Card<B = Box<[u8]>> {
+    // No call changes the device, so it is read once.
+    device: Device,
+    pub(crate) bytes: B,
+}
+
+impl Card {
+    /// New: a card with all cells of the device free, in bytes of its own.
+    pub fn new(device: &Device) -> Card {
+        let bytes = vec![0; RECORD_SIZE].into_boxed_slice();
+        // Neither of new's refusals applies: the length is a record's, and a `Device` is within the limits.
+        Card::new_in(bytes, device).expect("new takes every device")
+    }
+}
+
+impl<B: AsRef<[u8]> + AsMut<[u8]>> Card<B> {
+    /// New, in bytes that are lent: all of them are written, whatever they
+    /// were; −1 where they are not 29,188.
+    ///
+    /// ```
+    /// use card::{Card, Device, Kind, RECORD_SIZE};
+    ///
+    /// let mut record = [0; RECORD_SIZE];
+    /// let card = Card::new_in(&mut record, &Device::new(5, &[Kind::C])?)?;
+    /// assert_eq!(card.running().len(), 0);
+    /// # Ok::<(), card::Refusal>(())
+    /// ```
+    pub fn new_in(mut bytes: B, device: &Device) -> Result<Card<B>, Refusal> {
+        let kinds = &device.kind_bytes()[..device.kinds().len()];
+        outcome(bytes::new(bytes.as_mut(), device.rows().into(), kinds))?;
+        let device = *device;
+        Ok(Card { device, bytes })
+    }
+}
+
+impl<B: AsRef<[u8]>> Card<B> {
+    /// Takes bytes that are a card's record already; −1 where they are not
+    /// 29,188, −2 where they are not sound.
+    ///
+    /// ```
+    /// use card::{Card, Device, Kind, Refusal, RECORD_SIZE};
+    ///
+    /// let record = Card::new(&Device::new(5, &[Kind::C])?).into_bytes();
+    /// let card = Card::open(&record)?;
+    /// assert_eq!(card.device().rows(), 5);
+    ///
+    /// let zeros = [0; RECORD_SIZE];
+    /// assert!(matches!(Card::open(&zeros), Err(Refusal::RecordNotSound)));
+    /// # Ok::<(), Refusal>(())
+    /// ```
+    pub fn open(bytes: B) -> Result<Card<B>, Refusal> {
+        let record = bytes.as_ref();
+        // Every device has a column 0, so this refuses the record or nothing.
+        outcome(bytes::interval_count(record, 0))?;
+        let device = Device::of_record(record).ok_or(Refusal::RecordNotSound)?;
+        Ok(Card { device, bytes })
+    }
+
+    /// The device, as it was given to new.
+    pub fn device(&self) -> &Device {
+        &self.device
+    }
+
+    /// The running tasks, by rising number.
+    ///
+    /// ```
+    /// use card::{Card, Device, Kind, Position, Task};
+    ///
+    /// let mut card = Card::new(&Device::new(5, &[Kind::C])?);
+    /// let position = Position { column: 0, bottom: 4 };
+    /// card.place(&Task::of(Kind::C, 2), 7, position)?;
+    /// for running in card.running() {
+    ///     assert_eq!((running.number, running.position), (7, position));
+    /// }
+    /// # Ok::<(), card::Refusal>(())
+    /// ```
+    pub fn running(&self) -> RunningTasks<'_> {
+        let record = self.as_bytes();
+        let count = usize::from(record[RUNNING_AT]);
+        RunningTasks::of(&record[ENTRIES_AT..ENTRIES_AT + ENTRY_SIZE * count])
+    }
+
+    /// The record's bytes, to be kept or sent; [`open`](Card::open) takes them back.
+    pub fn as_bytes(&self) -> &[u8] {
+        self.bytes.as_ref()
+    }
+
+    /// Gives back the bytes that the card owned or was lent.
+    pub fn into_bytes(self) -> B {
+        self.bytes
+    }
+}
+
+/// Two cards are equal when their records are: the same device with the same
+/// tasks, under the same numbers at the same positions.
+impl<B: AsRef<[u8]>, C: AsRef<[u8]>> PartialEq<Card<C>> for Card<B> {
+    fn eq(&self, other: &Card<C>) -> bool {
+        self.as_bytes() == other.as_bytes()
+    }
+}
+
+impl<B: AsRef<[u8]>> Eq for Card<B> {}
+
+impl<B: AsRef<[u8]>> fmt::Debug for Card<B> {
+    fn fmt(&self, f: &mut fmt::Formatter<'_>) -> fmt::Result {
+        f.debug_struct("Card")
+            .field("rows", &self.device.rows())
+            .field("kinds", &self.device.kinds())
+            .field("running", &self.running())
+            .finish()
+    }
+}
