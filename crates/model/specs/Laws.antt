@@ -37,6 +37,7 @@ pub mod OnRecord
 pub mod Kept
 pub mod Same
 pub mod Freed
+pub mod OtherColumns
 pub mod OnCells
 pub mod RangeBytes
 pub mod Step
