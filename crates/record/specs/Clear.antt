@@ -5,7 +5,6 @@ use mathlib.Core.Logic.{_⊎_, inl, inr}
 use mathlib.Core.Bool.{true}
 use mathlib.Core.List.{List, [], _∷_, _++_}
 use native.Mathlib.Omega.{arith}
-use native.Mathlib.Nat.{mul-div-le}
 use lib.Dec.{ltb}
 use lib.ListN.{length, getD, set, take, drop, replicate, length-replicate, getD-replicate, take-append-drop, length-set}
 use lib.Seq.{set-getD, getD-set-other}
@@ -15,7 +14,7 @@ use Rattle.runs.specs.Laws.Tests.{tests, cond-ind, lt-or-ge}
 use Rattle.runs.specs.Laws.Intervals.{free-intervals}
 use Rattle.runs.specs.Laws.Streaming.{piece-some, piece-none}
 use Rattle.model.specs.Limits.{max-rows, max-columns, max-kind, record-size, columns-at, head-size, kinds-at, counts-at, column-size, entry-size}
-use Rattle.model.specs.Columns.{Device, columns, kind, height, cells-in, top-in, top, device-ok}
+use Rattle.model.specs.Columns.{Device, columns, kind, top-in, top, device-ok}
 use Rattle.model.specs.Book.{free, held, intervals}
 use Rattle.model.specs.Bounded.{any-in}
 use Rattle.model.specs.Record.{bytes16, interval-bytes, head-bytes, column-part, entry-part, record-of, part, column-at, entry-at}
@@ -28,13 +27,6 @@ use Rattle.model.specs.Laws.Parts.{changed, upto, upto-none, upto-step, upto-al
 use Rattle.model.specs.Laws.Slots.{slot-out}
 use Rattle.model.specs.Laws.ColumnPart.{column-push}
 use Rattle.model.specs.Laws.Record.{Reads, reads-head, reads-column, reads-count, reads-cong, shows-image, put-column, length-column, column-part-nil, kind-out, intervals-out}
-
--- ---- the top of a column
-
--- the last cell of a column ends on the device
-pub top-in-le : (rows k : ℕ) → top-in rows k ≤ 2 * rows
-unfolding top-in cells-in
-top-in-le rows k = mul-div-le (2 * rows) (height k)
 
 -- ---- one column
 

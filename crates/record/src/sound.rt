@@ -11,6 +11,7 @@ use model::MAX_BLOCKS;
 use model::MAX_COLUMNS;
 use model::MAX_RUNNING;
 use model::RECORD_SIZE;
+use model::ROWS_AT;
 use model::RUNNING_AT;
 use task::well_formed;
 use words::equal;
@@ -106,7 +107,7 @@ pub fn sound(record: &[u8]) -> bool
     if record.len() != RECORD_SIZE {
         return false;
     }
-    let rows = get16(record, 0);
+    let rows = get16(record, ROWS_AT);
     let columns = wide(record[COLUMNS_AT]) as usize;
     if columns > MAX_COLUMNS {
         return false;

@@ -5,8 +5,9 @@ use native.Mathlib.Omega.{arith}
 use borrow.Author.Needs.{needs}
 use lib.ListN.{length-set}
 use Rattle.model.specs.Record.{part}
+use Rattle.model.specs.Laws.Columns.{top-in-le}
 use Rattle.model.specs.Laws.Parts.{splice}
-use Rattle.record.specs.Clear.{closed-kind, open-none, open-one, top-in-le}
+use Rattle.record.specs.Clear.{closed-kind, open-none, open-one}
 use Rattle.record.proofs.clear.open_column.Statement.{statement}
 use Rattle.record.proofs.clear.open_column.Tie as tie
 use Rattle.record.proofs.clear.open_column.Reads as reads
