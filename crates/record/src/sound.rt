@@ -25,7 +25,8 @@ ghost use lib.Dec.{ltb};
 ghost use Rattle.model.specs.Limits.{record-size, running-at};
 ghost use Rattle.model.specs.Record.{book-of};
 ghost use Rattle.model.specs.Sound.{sound};
-ghost use Rattle.record.specs.Rebuild.{entry-of, prior, HasEntry, Ready, Tried, Rebuilt, Step};
+ghost use Rattle.record.specs.Entries.{entry-of, HasEntry};
+ghost use Rattle.record.specs.Rebuild.{prior, Ready, Tried, Rebuilt, Step};
 
 // Whether the number of running entry j is above that of the entry before it, and the first is 1 or more.
 fn rises(record: &[u8], j: usize) -> bool
