@@ -1,10 +1,9 @@
 -- Heights, cells and tops: what holds of them for every kind. Assumes nothing.
 use Prim.Native.Nat.{ℕ, _*_, _≤_}
-use native.Mathlib.Nat.{mul-div-le, mul-comm}
+use native.Mathlib.Nat.{mul-div-le}
 use native.Mathlib.Omega.{arith}
 use lib.Dec.{eqb}
 use Rattle.runs.specs.Laws.Tests.{cond-ind}
-use Rattle.runs.specs.Intervals.{Multiple}
 use Rattle.model.specs.Columns.{height, kind-C, cells-in, top-in, Device, half-rows, kind, top}
 
 -- every height is 2 or more
@@ -23,8 +22,3 @@ top-in-le rows k = mul-div-le (2 * rows) (height k)
 pub top-le : (d : Device) (c : ℕ) → top d c ≤ half-rows d
 unfolding top
 top-le d c = top-in-le (d .rows) (kind d c)
-
--- on a multiple of the height
-pub top-multiple : (d : Device) (c : ℕ) → Multiple (height (kind d c)) (top d c)
-unfolding top top-in
-top-multiple d c = (cells-in (d .rows) (kind d c), mul-comm (height (kind d c)) (cells-in (d .rows) (kind d c)))

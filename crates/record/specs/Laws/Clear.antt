@@ -1,32 +1,33 @@
 -- The record of a new card, written byte by byte: zeros, the head, and then one column after the other. Assumes nothing.
 use Prim.Native.Nat.{ℕ, suc, _+_, _/_, _%_, _≤_, _<_}
 use mathlib.Core.Path.{_≡_, refl, sym, ap, _∙_}
-use mathlib.Core.Logic.{_⊎_, inl, inr}
+use mathlib.Core.Logic.{inl}
 use mathlib.Core.Bool.{true}
-use mathlib.Core.List.{List, [], _∷_, _++_}
+use mathlib.Core.List.{List, [], _∷_}
 use native.Mathlib.Omega.{arith}
 use lib.Dec.{ltb}
-use lib.ListN.{length, getD, set, take, drop, replicate, length-replicate, getD-replicate, take-append-drop, length-set}
+use lib.ListN.{length, getD, set, replicate, length-replicate, getD-replicate, length-set}
 use lib.Seq.{set-getD, getD-set-other}
-use borrow.Author.Tests.{le-ltb}
 use Rattle.runs.specs.Intervals.{interval, Free, Named, piece}
-use Rattle.runs.specs.Laws.Tests.{tests, cond-ind, lt-or-ge}
+use Rattle.runs.specs.Laws.Tests.{tests, cond-ind}
 use Rattle.runs.specs.Laws.Intervals.{free-intervals}
 use Rattle.runs.specs.Laws.Streaming.{piece-some, piece-none}
 use Rattle.model.specs.Limits.{max-rows, max-columns, max-kind, record-size, columns-at, head-size, kinds-at, counts-at, column-size, entry-size}
 use Rattle.model.specs.Columns.{Device, columns, kind, top-in, top, device-ok}
 use Rattle.model.specs.Book.{free, held, intervals}
 use Rattle.model.specs.Bounded.{any-in}
-use Rattle.model.specs.Record.{bytes16, interval-bytes, head-bytes, column-part, entry-part, record-of, part, column-at, entry-at}
+use Rattle.model.specs.Record.{bytes16, interval-bytes, head-bytes, column-part, entry-part, record-of, column-at, entry-at}
 use Rattle.model.specs.Laws.Clauses.{Zero}
 use Rattle.model.specs.Laws.WriteBack.{zero-part}
 use Rattle.model.specs.Laws.Limits.{limits-to, kind-le}
 use Rattle.model.specs.Laws.Kept.{within-new}
 use Rattle.model.specs.Laws.Split.{free-of}
-use Rattle.model.specs.Laws.Parts.{changed, upto, upto-none, upto-step, upto-all, splice, splice-more, byte-set, part-set-below, part-set-above, set-two}
+use Rattle.model.specs.Laws.Changed.{upto, upto-none, upto-step, upto-out, upto-is}
+use Rattle.model.specs.Laws.Parts.{splice, splice-same, splice-more, part-set-above, set-two}
 use Rattle.model.specs.Laws.Slots.{slot-out}
 use Rattle.model.specs.Laws.ColumnPart.{column-push}
-use Rattle.model.specs.Laws.Record.{Reads, reads-head, reads-column, reads-count, reads-cong, shows-image, put-column, length-column, column-part-nil, kind-out, intervals-out}
+use Rattle.model.specs.Laws.Layout.{Reads, reads-kind, reads-head, reads-column, reads-count, reads-cong}
+use Rattle.model.specs.Laws.Record.{shows-image, put-column, length-column, column-part-nil, kind-out, intervals-out}
 use Rattle.record.specs.Clear.{Closed}
 
 -- ---- one column
@@ -36,11 +37,6 @@ pub part-one : (p : List ℕ) (top : ℕ) → p ≡ column-part [] → splice (s
 unfolding interval-bytes bytes16
 part-one p top e =
     rw e (splice-more (column-part []) 0 2 2 (bytes16 0) (bytes16 top) (omega (arith, length-column [])) refl ∙ column-push [] (interval 0 top) (omega arith))
-
--- a part replaced by itself
-splice-same : (r : List ℕ) (at n : ℕ) → splice r at n (part r at n) ≡ r
-unfolding splice part
-splice-same r at n = ap (λ (l : List ℕ). take at r ++ l) (take-append-drop n (drop at r)) ∙ take-append-drop at r
 
 -- a kind byte written leaves column c as it is
 pub closed-kind : (r : List ℕ) (c k : ℕ) → Closed r c → Closed (set r (kinds-at + c) k) c
@@ -82,10 +78,6 @@ new-intervals d c q = sym (free-intervals (free d [] c) (top d c) (piece 0 (top 
 
 -- ---- the columns one after the other
 
-upto-out {ℓ} : {A : Type ℓ} (f g : ℕ → A) (n i : ℕ) → n ≤ i → upto n f g i ≡ g i
-unfolding upto
-upto-out f g n i h = rw (le-ltb i n h)
-
 -- the head of a new card is written, and its columns below n are open
 abbrev pub Opened : Device → ℕ → List ℕ → Type 0
 Opened d n r =
@@ -119,20 +111,6 @@ opened-none d r z s l ez es =
     (λ c q. sym (upto-none (λ c. column-part (intervals d [] c)) (λ c. column-part []) c))
     (λ j q. refl))
 
--- a kind byte
-reads-kind : {r head : List ℕ} {kinds counts : ℕ → ℕ} {columns entries : ℕ → List ℕ} → Reads r head kinds counts columns entries
-    → (c v : ℕ) → c < max-columns → Reads (set r (kinds-at + c) v) head (changed kinds c v) counts columns entries
-reads-kind {r} {head} {kinds} x c v q =
-    let fits : kinds-at + c < length r = omega (arith, x .size) in
-    record {
-      size = length-set r (kinds-at + c) v ∙ x .size;
-      head-is = part-set-below r (kinds-at + c) v 0 head-size (omega arith) fits ∙ x .head-is;
-      kind-is = byte-set r kinds-at max-columns kinds c v 0 (omega (arith, x .size)) q (x .kind-is);
-      count-is = λ i p. getD-set-other r (kinds-at + c) (counts-at + i) v 0 (omega arith) ∙ x .count-is i p;
-      column-is = λ i p. part-set-above r (kinds-at + c) v (column-at i) column-size (omega arith) fits ∙ x .column-is i p;
-      entry-is = λ i p. part-set-above r (kinds-at + c) v (entry-at i) entry-size (omega arith) fits ∙ x .entry-is i p;
-    }
-
 module _ (d : Device) (n : ℕ) (r : List ℕ) (x : Opened d n r) (q : n < max-columns) where
   -- the next column is closed
   pub opened-closed : Closed r n
@@ -155,14 +133,6 @@ module _ (d : Device) (n : ℕ) (r : List ℕ) (x : Opened d n r) (q : n < max-c
       (λ c m. upto-step (λ c. length (intervals d [] c)) (λ c. 0) n c)
       (λ c m. upto-step (λ c. column-part (intervals d [] c)) (λ c. column-part []) n c)
       (λ j m. refl))
-
--- what a function says, and past the columns another that says the same there
-upto-is {ℓ} : {A : Type ℓ} (f g : ℕ → A) (n : ℕ) → ((i : ℕ) → n ≤ i → f i ≡ g i) → (i : ℕ) → upto n f g i ≡ f i
-upto-is f g n h i = go (lt-or-ge i n)
-  where
-    go : (i < n) ⊎ (n ≤ i) → upto n f g i ≡ f i
-    go (inl l) = upto-all f g n i l
-    go (inr l) = upto-out f g n i l ∙ sym (h i l)
 
 -- THEOREM: with all its columns open it is the record of a new card
 pub opened-all : (d : Device) (r : List ℕ) → Opened d (columns d) r → r ≡ record-of d []

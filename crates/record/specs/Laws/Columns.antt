@@ -24,7 +24,7 @@ use Rattle.model.specs.Laws.Columns.{height-two, top-le}
 use Rattle.model.specs.Laws.Tasks.{sized-to, solid-block}
 use Rattle.model.specs.Laws.Fits.{fits-to, fits-below}
 use Rattle.model.specs.Laws.Cells.{intervals-grid}
-use Rattle.model.specs.Laws.Parts.{changed, changed-same, changed-other}
+use Rattle.model.specs.Laws.Changed.{changed, changed-same, changed-other}
 use Rattle.model.specs.Laws.Record.{put-column, image-shows, image-column, image-cong}
 use Rattle.model.specs.Laws.WriteBack.{Bytes}
 use Rattle.model.specs.Laws.Sound.{sound-record}

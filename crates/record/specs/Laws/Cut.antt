@@ -1,8 +1,8 @@
 -- A task's blocks taken from the free intervals one after the other: at the end they are those of the book with the task in it. Assumes nothing.
 use Prim.Native.Nat.{ℕ, suc, _+_, _≤_, _<_}
-use mathlib.Core.Path.{_≡_, refl, sym, ap}
+use mathlib.Core.Path.{_≡_, refl}
 use mathlib.Core.Logic.{_⊎_, inl, inr, _↔_, _≢_}
-use mathlib.Core.Bool.{Bool, true, false, not, _&&_, _||_}
+use mathlib.Core.Bool.{true, false, not, _||_, and-true, or-false}
 use mathlib.Core.List.{List}
 use native.Mathlib.Omega.{arith}
 use lib.ListN.{length}
@@ -39,20 +39,12 @@ module _ (d : Device) (b : Book) (B : Placed) where
   cut-none : (c z : ℕ) → free-cut d b B 0 c z ≡ free d b c z
   unfolding free-cut any-below
   cut-none c z = and-true (free d b c z)
-    where
-      and-true : (t : Bool) → (t && true) ≡ t
-      and-true true = refl
-      and-true false = refl
 
   module _ (k : ℕ) where
     -- one more, in other columns and in its own
     cut-other : (c : ℕ) → c ≢ B .column k → (z : ℕ) → free-cut d b B k c z ≡ free-cut d b B (suc k) c z
     unfolding free-cut any-below
-    cut-other c h z = rw (covers-not B c z k h) (ap (λ (t : Bool). free d b c z && not t) (sym (or-no (any-below k (covers B c z)))))
-      where
-        or-no : (t : Bool) → (t || false) ≡ t
-        or-no true = refl
-        or-no false = refl
+    cut-other c h z = rw (covers-not B c z k h, or-false)
 
     cut-own : (z : ℕ) → (free-cut d b B (suc k) (B .column k) z ≡ true) ↔ ((free-cut d b B k (B .column k) z ≡ true) × Outside (B .bottom k) (B .top k) z)
     unfolding free-cut any-below

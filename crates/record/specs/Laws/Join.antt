@@ -2,7 +2,7 @@
 use Prim.Native.Nat.{ℕ, suc, _+_, _≤_, _<_}
 use mathlib.Core.Path.{_≡_, refl}
 use mathlib.Core.Logic.{_⊎_, inl, inr, _↔_, _≢_}
-use mathlib.Core.Bool.{Bool, true, false, _||_}
+use mathlib.Core.Bool.{Bool, true, _||_, or-false}
 use mathlib.Core.List.{List, []}
 use native.Mathlib.Omega.{arith}
 use Rattle.runs.specs.Intervals.{unite}
@@ -41,11 +41,7 @@ module _ (d : Device) (b : Book) (B : Placed) where
     -- one more, in other columns and in its own
     join-other : (c : ℕ) → c ≢ B .column k → (z : ℕ) → free-join d b B k c z ≡ free-join d b B (suc k) c z
     unfolding free-join any-below
-    join-other c h z = rw (covers-not B c z k h) (or-no (any-below k (covers B c z)) (free d b c z))
-      where
-        or-no : (t u : Bool) → (t || u) ≡ ((t || false) || u)
-        or-no true u = refl
-        or-no false u = refl
+    join-other c h z = rw (covers-not B c z k h, or-false)
 
     join-own : (z : ℕ) → (free-join d b B (suc k) (B .column k) z ≡ true) ↔ (((B .bottom k ≤ z) × (z < B .top k)) ⊎ (free-join d b B k (B .column k) z ≡ true))
     unfolding free-join any-below

@@ -2,7 +2,7 @@
 use borrow.Author.Needs.{needs}
 use mathlib.Core.Path.{ap, _∙_}
 use Rattle.model.specs.Tasks.{lifted, block}
-use Rattle.task.specs.Laws.{kind-known, kind-unknown}
+use Rattle.model.specs.Laws.Kinds.{kind-known, kind-unknown}
 use Rattle.task.proofs.read_block.Statement.{statement}
 use Rattle.task.proofs.read_block.Tie as tie
 

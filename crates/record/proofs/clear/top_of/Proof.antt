@@ -3,7 +3,7 @@ use mathlib.Core.Path.{ap, _∙_}
 use native.Mathlib.Omega.{arith}
 use borrow.Author.Needs.{needs}
 use Rattle.model.specs.Columns.{top-in}
-use Rattle.task.specs.Laws.{kind-known, kind-unknown}
+use Rattle.model.specs.Laws.Kinds.{kind-known, kind-unknown}
 use Rattle.record.proofs.clear.top_of.Statement.{statement}
 use Rattle.record.proofs.clear.top_of.Tie as tie
 
