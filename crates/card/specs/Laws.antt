@@ -33,8 +33,9 @@ use Rattle.model.specs.Laws.Sound.{columns-said, running-said, sound-within, so
 use Rattle.model.specs.Laws.Clauses.{clauses-to}
 use Rattle.model.specs.Laws.OnRecord.{plain-refusal, wrong-length-call, not-sound-call, refused-call, done-call, count-wrong-length, count-not-sound, count-no-column, count-done}
 use Rattle.listing.specs.Columns.{Given}
-use Rattle.record.specs.Entries.{Finds, found-true}
+use Rattle.record.specs.Entries.{Finds}
 use Rattle.record.specs.Enter.{Placeable}
+use Rattle.record.specs.Laws.Entries.{found-true}
 use Rattle.record.specs.declared.entries.Found.{Found}
 use Rattle.record.specs.declared.entries.Found.the-variants.{At, Nowhere}
 use Rattle.listing.specs.Output.{Answers}

@@ -1,10 +1,13 @@
 -- What is proved of document 01's definitions, from the tools up.
 pub mod Bounded
 -- lists and bytes
+pub mod Changed
 pub mod Parts
+pub mod Tables
 pub mod Slots
 -- columns, tasks and where they fit
 pub mod Columns
+pub mod Kinds
 pub mod Signed
 pub mod Tasks
 pub mod Fits
@@ -14,6 +17,7 @@ pub mod Cells
 pub mod Split
 pub mod Listing
 -- the record
+pub mod Layout
 pub mod Record
 pub mod Entries
 pub mod ColumnPart

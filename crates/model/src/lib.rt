@@ -19,10 +19,19 @@ pub const MAX_INTERVALS: usize = 64;
 
 pub const MAX_NUMBER: u32 = 65535;
 
+pub const MAX_KIND: u8 = 2;
+
 pub const REACH: u32 = 256;
 
-// Lengths and offsets in bytes.
+// How many numbers one byte holds, and two bytes.
+pub const BYTES: u32 = 256;
+
+pub const WORDS: u32 = 65536;
+
+// Lengths and offsets in bytes: of the record,
 pub const RECORD_SIZE: usize = 29188;
+
+pub const ROWS_AT: usize = 0;
 
 pub const COLUMNS_AT: usize = 2;
 
@@ -36,20 +45,45 @@ pub const INTERVALS_AT: usize = 132;
 
 pub const COLUMN_SIZE: usize = 256;
 
-pub const INTERVAL_SIZE: usize = 4;
-
 pub const ENTRIES_AT: usize = 16516;
 
+// of an interval, whose bottom stands first,
+pub const INTERVAL_SIZE: usize = 4;
+
+pub const INTERVAL_TOP_AT: usize = 2;
+
+// of a running entry, whose number stands first,
 pub const ENTRY_SIZE: usize = 198;
+
+pub const ENTRY_COLUMN_AT: usize = 2;
+
+pub const ENTRY_COUNT_AT: usize = 3;
+
+pub const ENTRY_BOTTOM_AT: usize = 4;
 
 pub const BLOCKS_AT: usize = 6;
 
+// of a block, whose column stands first,
 pub const BLOCK_SIZE: usize = 6;
 
+pub const BLOCK_KIND_AT: usize = 1;
+
+pub const BLOCK_BOTTOM_AT: usize = 2;
+
+pub const BLOCK_TOP_AT: usize = 4;
+
+// and of a listed range, whose column stands first.
 pub const RANGE_SIZE: usize = 6;
+
+pub const RANGE_STEP_AT: usize = 1;
+
+pub const RANGE_FIRST_AT: usize = 2;
+
+pub const RANGE_LAST_AT: usize = 4;
 
 pub const LIST_ROOM: usize = 24576;
 
+// What choose multiplies a column by in its answer.
 pub const COLUMN_WEIGHT: u32 = 1024;
 
 // The kind of a column: logic (CLB), memory (BRAM) or multiplier (DSP).
@@ -83,7 +117,7 @@ impl Kind {
         }
     }
 
-    // The whole cells of a column of this kind.
+    // The whole cells of a column of this kind. Each kind divides by its own constant, which is quicker than by a height that is chosen first.
     pub fn cells(self, rows: u32) -> u32
         requires { ⌜ rows ≤ max-rows ⌝ }
         ensures { λ r. ⌜ r ≡ cells-in rows (number-of self) ⌝ }
@@ -100,11 +134,7 @@ impl Kind {
         requires { ⌜ rows ≤ max-rows ⌝ }
         ensures { λ r. ⌜ r ≡ top-in rows (number-of self) ⌝ }
     {
-        match self {
-            Kind::C => Kind::C_HEIGHT * (2 * rows / Kind::C_HEIGHT),
-            Kind::B => Kind::B_HEIGHT * (2 * rows / Kind::B_HEIGHT),
-            Kind::D => Kind::D_HEIGHT * (2 * rows / Kind::D_HEIGHT),
-        }
+        self.height() * self.cells(rows)
     }
 
     pub fn number(self) -> u8

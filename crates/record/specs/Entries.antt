@@ -1,37 +1,45 @@
--- The entries of a record: found by number, moved by one place, put in and taken out. Assumes nothing.
-use Prim.Native.Nat.{ℕ, zero, suc, _+_, _-_, _*_, _≤_, _<_}
-use mathlib.Core.Path.{_≡_, refl, sym, ap, _∙_}
-use mathlib.Core.Bool.{true, false}
-use mathlib.Core.List.{List, [], _∷_, _++_}
-use native.Mathlib.Omega.{arith}
-use native.Mathlib.Nat.{add-zero, sub-zero, zero-sub, suc-sub-suc}
-use native.Mathlib.Decide.{decLt, ℕ-discrete}
-use lib.Dec.{eqb}
-use lib.ListN.{length, getD, set, take, drop, replicate, length-append, length-take, length-drop, length-replicate}
-use borrow.Author.Tests.{lt-ltb, le-ltb, eq-eqb, ne-eqb}
-use Rattle.model.specs.Limits.{max-running, block-size, record-size, running-at, entry-size, blocks-at}
-use Rattle.model.specs.Bounded.{any-in}
+-- What the contracts of `entries` say: an entry read, found by number, moved, put in and taken out. Assumes nothing.
+use Prim.Native.Nat.{ℕ, suc, _+_, _-_, _*_, _≤_, _<_}
+use mathlib.Core.Path.{_≡_}
+use mathlib.Core.Bool.{false}
+use mathlib.Core.List.{List, _++_}
+use lib.ListN.{length, getD, take, drop}
+use Rattle.model.specs.Limits.{max-running, block-size, record-size, running-at, blocks-at}
 use Rattle.model.specs.Columns.{Device}
-use Rattle.model.specs.Tasks.{word, blocks, sized}
+use Rattle.model.specs.Tasks.{word}
 use Rattle.model.specs.Book.{Running, Book}
-use Rattle.model.specs.Calls.{insert, without, runs-in}
-use Rattle.model.specs.Record.{bytes16, padded, part, entry-bytes, entry-at, entry-part, head-bytes, running-of, device-of, book-of}
-use Rattle.model.specs.Laws.Bounded.{any-in-none, any-in-of}
-use Rattle.model.specs.Sound.{sound, block-count}
-use Rattle.model.specs.Laws.Limits.{Rising, rising-above, limits-to}
-use Rattle.model.specs.Laws.Tasks.{sized-to}
-use Rattle.model.specs.Laws.Parts.{changed, changed-same, changed-other, splice, splice-more, set-splice, length-splice, length-part, getD-list}
-use Rattle.model.specs.Laws.Slots.{raised, raised-low, raised-in, raised-high, lowered, lowered-low, lowered-in, lowered-high, padded-is, length-padded}
-use Rattle.model.specs.Laws.Record.{Reads, reads-entry, reads-cong, running-read, no-entry}
-use Rattle.model.specs.Laws.ReadBack.{getD-in}
-use Rattle.model.specs.Laws.Entries.{place, entry-insert, entry-remove, reads-book, length-insert, without-none}
-use Rattle.model.specs.Laws.ColumnPart.{word-part}
-use Rattle.model.specs.Laws.Sound.{running-said, sound-within}
+use Rattle.model.specs.Calls.{insert, runs-in}
+use Rattle.model.specs.Record.{entry-at, entry-part, head-bytes, book-of}
+use Rattle.model.specs.Sound.{block-count}
+use Rattle.model.specs.Laws.Layout.{Reads}
+use Rattle.model.specs.Laws.Record.{no-entry}
+use Rattle.model.specs.Laws.Entries.{place}
 use Rattle.record.specs.declared.entries.Entry.{Entry}
 use Rattle.record.specs.declared.entries.Found.{Found}
 use Rattle.record.specs.declared.entries.Found.the-variants.{At, Nowhere}
 
--- ---- read
+-- running task j of r
+abbrev pub entry-of : List ℕ → ℕ → Running
+entry-of r j = getD (book-of r) j no-entry
+
+-- the bytes of entry j's blocks, as a part of r from the entry's seventh byte on
+abbrev pub blocks-of : List ℕ → ℕ → List ℕ
+blocks-of r j = take (entry-at j + blocks-at + block-size * block-count r j - (entry-at j + blocks-at)) (drop (entry-at j + blocks-at) r)
+
+-- running task j of r, as the bytes of its entry say it
+abbrev pub bytes-entry : List ℕ → ℕ → Running
+bytes-entry r j = record {
+  number = word r (entry-at j);
+  column = getD r (entry-at j + 2) 0;
+  bottom = word r (entry-at j + 4);
+  task = blocks-of r j;
+}
+
+-- r has the length of a record, and entry j is one of its running tasks
+pub record HasEntry (r : List ℕ) (j : ℕ) : Type 0 where
+  pub size : length r ≡ record-size
+  pub few : getD r running-at 0 ≤ max-running
+  pub runs : j < getD r running-at 0
 
 -- what is read of entry j of r, with where its blocks begin and end
 pub record Says (r : List ℕ) (j : ℕ) (e : Entry) : Type 0 where
@@ -41,211 +49,22 @@ pub record Says (r : List ℕ) (j : ℕ) (e : Entry) : Type 0 where
   pub from : e .from ≡ entry-at j + blocks-at
   pub to : e .to ≡ entry-at j + blocks-at + block-size * block-count r j
 
--- ---- found by number
-
 -- what a search for number n in the book b answers: an entry of that number, or that none runs
 abbrev pub Finds : Book → ℕ → Found → Type 0
 Finds b n (At k) = (k < length b) × (getD b k no-entry .number ≡ n)
 Finds b n Nowhere = runs-in b n ≡ false
 
--- the number that entry j says
-pub number-said : (r : List ℕ) (j : ℕ) → j < getD r running-at 0 → getD (book-of r) j no-entry .number ≡ word r (entry-at j)
-unfolding book-of running-of
-number-said r j q =
-    ap (λ (e : Running). e .number) (getD-list (λ j. running-of (part r (entry-at j) entry-size)) (getD r running-at 0) j no-entry q)
-    ∙ word-part r (entry-at j) entry-size 0 (omega arith) ∙ ap (word r) (add-zero (entry-at j))
-
--- a number that no entry has does not run
-pub runs-none : (b : Book) (n : ℕ) → ((j : ℕ) → j < length b → getD b j no-entry .number ≡ n → ⊥) → runs-in b n ≡ false
-unfolding runs-in any-in
-runs-none [] n h = refl
-runs-none (f ∷ b) n h = rw (ne-eqb (f .number) n (h 0 (omega arith))) (runs-none b n (λ j q. h (suc j) (omega arith)))
-
--- and one that an entry has runs
-pub found-true : (b : Book) (n k : ℕ) → Finds b n (At k) → runs-in b n ≡ true
-unfolding runs-in
-found-true b n k (q, e) = any-in-of (λ f. eqb (f .number) n) b (getD b k no-entry) (getD-in b k no-entry q) (eq-eqb (getD b k no-entry .number) n e)
-
--- the same by the bytes of the entries
-pub found-at : (r : List ℕ) (n k : ℕ) → k < getD r running-at 0 → word r (entry-at k) ≡ n → Finds (book-of r) n (At k)
-found-at r n k q e = (omega (arith, running-said r), number-said r k q ∙ e)
-
-pub found-none : (r : List ℕ) (n : ℕ) → ((j : ℕ) → j < getD r running-at 0 → word r (entry-at j) ≡ n → ⊥) → Finds (book-of r) n Nowhere
-found-none r n h = runs-none (book-of r) n (λ j q e. let l : j < getD r running-at 0 = omega (arith, running-said r) in h j l (sym (number-said r j l) ∙ e))
-
--- ---- the place of a number
-
-pub place-is : (m n : ℕ) (b : Book) (k : ℕ) → Rising m b → k ≤ length b → ((i : ℕ) → suc i ≡ k → getD b i no-entry .number ≤ n)
-    → ((j : ℕ) → k ≤ j → j < length b → n < getD b j no-entry .number) → k ≡ place n b
-unfolding place
-place-is m n [] k r l lo hi = omega arith
-place-is m n (f ∷ b) zero r l lo hi = rw (lt-ltb n (f .number) (hi 0 (omega arith) (omega arith)))
-place-is m n (f ∷ b) (suc zero) r l lo hi =
-    rw (le-ltb n (f .number) (lo 0 refl))
-    (ap suc (place-is (f .number) n b 0 (r .1) (omega arith) (λ i e. absurd (omega arith)) (λ j p q. hi (suc j) (omega arith) (omega arith))))
-place-is m n (f ∷ b) (suc (suc k)) r l lo hi =
-    let below : getD b k no-entry .number ≤ n = lo (suc k) refl in
-    rw (le-ltb n (f .number) (omega (arith, rising-above (f .number) b (r .1) (getD b k no-entry) (getD-in b k no-entry (omega arith)))))
-    (ap suc (place-is (f .number) n b (suc k) (r .1) (omega arith) (λ i e. lo (suc i) (ap suc e)) (λ j p q. hi (suc j) (omega arith) (omega arith))))
-
--- the same by the bytes of the entries
-pub place-said : (r : List ℕ) (n k : ℕ) → sound r ≡ true → k ≤ getD r running-at 0 → ((i : ℕ) → suc i ≡ k → word r (entry-at i) ≤ n)
-    → ((j : ℕ) → k ≤ j → j < getD r running-at 0 → n < word r (entry-at j)) → k ≡ place n (book-of r)
-place-said r n k s q lo hi =
-    place-is 0 n (book-of r) k (limits-to (device-of r) (book-of r) (sound-within r s) .rising) (omega (arith, running-said r))
-    (λ i e. omega (arith, number-said r i (omega arith), lo i e))
-    (λ j p l. let m : j < getD r running-at 0 = omega (arith, running-said r) in omega (arith, number-said r j m, hi j p m))
-
--- one entry more is passed
-pub higher-more : (r : List ℕ) (n k m : ℕ) → 0 < k → n < word r (entry-at (k - 1)) → ((j : ℕ) → k ≤ j → j < m → n < word r (entry-at j))
-    → (j : ℕ) → k - 1 ≤ j → j < m → n < word r (entry-at j)
-higher-more r n k m p h hi j q l = elim (decLt j k) [
-  | yes a ↦ let e : j ≡ k - 1 = omega arith in rw e h
-  | no a ↦ hi j (omega arith) l
-]
-
--- ---- the book without one entry
-
--- THEOREM: the book without the number of its entry k is the book without entry k
-pub without-place : (m : ℕ) (b : Book) (k : ℕ) → Rising m b → k < length b → without (getD b k no-entry .number) b ≡ take k b ++ drop (suc k) b
-unfolding without runs-in
-without-place m [] k r q = absurd (omega arith)
-without-place m (f ∷ b) zero r q =
-    rw (eq-eqb (f .number) (f .number) refl)
-    (without-none (f .number) b (any-in-none (λ e. eqb (e .number) (f .number)) b (λ e i. ne-eqb (e .number) (f .number) (λ h. omega (arith, rising-above (f .number) b (r .1) e i)))))
-without-place m (f ∷ b) (suc k) r q =
-    let n = getD b k no-entry .number in
-    let above = rising-above (f .number) b (r .1) (getD b k no-entry) (getD-in b k no-entry (omega arith)) in
-    rw (ne-eqb (f .number) n (λ h. omega arith)) (ap (λ (l : Book). f ∷ l) (without-place (f .number) b k (r .1) (omega arith)))
-
--- ---- entries moved by one place
-
 -- however r is read, s is read so too, but that its entries are moved by g
 pub record Moved (r s : List ℕ) (g : (ℕ → List ℕ) → ℕ → List ℕ) : Type 0 where
   pub moved : {h : List ℕ} {kinds counts : ℕ → ℕ} {columns entries : ℕ → List ℕ} → Reads r h kinds counts columns entries → Reads s h kinds counts columns (g entries)
-
--- one entry copied over another
-moved-copy : (r s t : List ℕ) (from to : ℕ) (g g′ : (ℕ → List ℕ) → ℕ → List ℕ) → length s ≡ record-size → from < max-running → to < max-running
-    → t ≡ splice s (entry-at to) entry-size (part s (entry-at from) entry-size)
-    → ((f : ℕ → List ℕ) (i : ℕ) → changed (g f) to (g f from) i ≡ g′ f i) → Moved r s g → Moved r t g′
-moved-copy r s t from to g g′ l p q e h m = record {
-  moved = λ {entries = f} x.
-      let v = part s (entry-at from) entry-size in
-      let y = m .moved x in
-      rw e (reads-cong (reads-entry y to v q (length-part s (entry-at from) entry-size (omega arith))) refl (λ c q. refl) (λ c q. refl) (λ c q. refl)
-      (λ i j. ap (λ (v : List ℕ). changed (g f) to v i) (y .entry-is from p) ∙ h f i));
-}
-
-moved-same : (r : List ℕ) (g : (ℕ → List ℕ) → ℕ → List ℕ) → ((f : ℕ → List ℕ) (i : ℕ) → f i ≡ g f i) → Moved r r g
-moved-same r g h = record { moved = λ {entries = f} x. reads-cong x refl (λ c q. refl) (λ c q. refl) (λ c q. refl) (λ i q. h f i) }
-
--- none raised, and one more
-pub raised-none : (r : List ℕ) (n : ℕ) → Moved r r (raised n n)
-raised-none r n = moved-same r (raised n n) (λ f i. sym (elim (decLt n i) [ yes p ↦ raised-high n n f i p p | no p ↦ raised-low n n f i (omega arith) ]))
-
-pub raised-more : (r s t : List ℕ) (j n : ℕ) → 0 < j → j ≤ n → n < max-running → length s ≡ record-size
-    → t ≡ splice s (entry-at j) entry-size (part s (entry-at (j - 1)) entry-size) → Moved r s (raised j n) → Moved r t (raised (j - 1) n)
-raised-more r s t j n h p q l e m = moved-copy r s t (j - 1) j (raised j n) (raised (j - 1) n) l (omega arith) (omega arith) e one m
-  where
-    one : (f : ℕ → List ℕ) (i : ℕ) → changed (raised j n f) j (raised j n f (j - 1)) i ≡ raised (j - 1) n f i
-    one f i = elim (ℕ-discrete i j) [
-      | yes e ↦ rw (e, changed-same (raised j n f) j (raised j n f (j - 1))) (raised-low j n f (j - 1) (omega arith) ∙ sym (raised-in (j - 1) n f j (omega arith) p))
-      | no ne ↦ rw (changed-other (raised j n f) j i (raised j n f (j - 1)) ne) (elim (decLt i j) [
-        | yes a ↦ raised-low j n f i (omega arith) ∙ sym (raised-low (j - 1) n f i (omega arith))
-        | no a ↦ elim (decLt n i) [
-          | yes b ↦ raised-high j n f i (omega arith) b ∙ sym (raised-high (j - 1) n f i (omega arith) b)
-          | no b ↦ raised-in j n f i (omega arith) (omega arith) ∙ sym (raised-in (j - 1) n f i (omega arith) (omega arith))
-        ]
-      ])
-    ]
-
--- none lowered, and one more
-pub lowered-none : (r : List ℕ) (k : ℕ) → Moved r r (lowered k k)
-lowered-none r k = moved-same r (lowered k k) (λ f i. sym (elim (decLt i k) [ yes p ↦ lowered-low k k f i p | no p ↦ lowered-high k k f i (omega arith) (omega arith) ]))
-
-pub lowered-more : (r s t : List ℕ) (k j : ℕ) → k ≤ j → j + 1 < max-running → length s ≡ record-size
-    → t ≡ splice s (entry-at j) entry-size (part s (entry-at (j + 1)) entry-size) → Moved r s (lowered k j) → Moved r t (lowered k (j + 1))
-lowered-more r s t k j p q l e m = moved-copy r s t (j + 1) j (lowered k j) (lowered k (j + 1)) l q (omega arith) e one m
-  where
-    one : (f : ℕ → List ℕ) (i : ℕ) → changed (lowered k j f) j (lowered k j f (j + 1)) i ≡ lowered k (j + 1) f i
-    one f i = elim (ℕ-discrete i j) [
-      | yes e ↦ rw (e, changed-same (lowered k j f) j (lowered k j f (j + 1))) (lowered-high k j f (j + 1) (omega arith) (omega arith) ∙ sym (lowered-in k (j + 1) f j p (omega arith)))
-      | no ne ↦ rw (changed-other (lowered k j f) j i (lowered k j f (j + 1)) ne) (elim (decLt i k) [
-        | yes a ↦ lowered-low k j f i a ∙ sym (lowered-low k (j + 1) f i a)
-        | no a ↦ elim (decLt i j) [
-          | yes b ↦ lowered-in k j f i (omega arith) b ∙ sym (lowered-in k (j + 1) f i (omega arith) (omega arith))
-          | no b ↦ lowered-high k j f i (omega arith) (omega arith) ∙ sym (lowered-high k (j + 1) f i (omega arith) (omega arith))
-        ]
-      ])
-    ]
-
--- ---- an entry written
-
-drop-zeros : (m n : ℕ) → drop {A = ℕ} n (replicate m 0) ≡ replicate (m - n) 0
-drop-zeros m zero = rw sub-zero
-drop-zeros zero (suc n) = rw zero-sub
-drop-zeros (suc m) (suc n) = rw suc-sub-suc (drop-zeros m n)
-
--- bytes written over the front of zeros
-front-written : (p u : List ℕ) (n : ℕ) → n ≡ length p → length u ≤ n → splice (replicate (length p) 0) 0 (length u) u ≡ padded n u
-unfolding splice
-front-written p u n e h =
-    ap (λ (l : List ℕ). u ++ l) (drop-zeros (length p) (length u)) ∙ (rw (← e) (sym (padded-is n u h)))
-
--- the fields one after the other, and the blocks, over zeros
-pub entry-written : (p z a b c : List ℕ) (e : Running) → length p ≡ entry-size → sized (e .task) ≡ true
-    → z ≡ replicate (length p) 0 → a ≡ splice z 0 2 (bytes16 (e .number))
-    → b ≡ splice (set (set a 2 (e .column)) 3 (blocks (e .task))) 4 2 (bytes16 (e .bottom)) → c ≡ splice b 6 (length (e .task)) (e .task)
-    → c ≡ padded entry-size (entry-bytes e)
-unfolding entry-bytes bytes16
-entry-written p z a b c e l s ez ea eb ec =
-    let t = e .task in
-    let o = sized-to t s in
-    let lz : length z ≡ entry-size = ap length ez ∙ length-replicate (length p) 0 ∙ l in
-    let u1 : List ℕ = bytes16 (e .number) in
-    let u2 : List ℕ = u1 ++ (e .column ∷ []) in
-    let u3 : List ℕ = u2 ++ (blocks t ∷ []) in
-    let u4 : List ℕ = u3 ++ bytes16 (e .bottom) in
-    let s2 : set a 2 (e .column) ≡ splice z 0 3 u2 =
-    rw ea (set-splice (splice z 0 2 u1) 2 (e .column) (omega (arith, length-splice z 0 2 u1 (omega arith) refl)) ∙ splice-more z 0 2 1 u1 (e .column ∷ []) (omega arith) refl) in
-    let s3 : set (set a 2 (e .column)) 3 (blocks t) ≡ splice z 0 4 u3 =
-    rw s2 (set-splice (splice z 0 3 u2) 3 (blocks t) (omega (arith, length-splice z 0 3 u2 (omega arith) refl)) ∙ splice-more z 0 3 1 u2 (blocks t ∷ []) (omega arith) refl) in
-    let s4 : b ≡ splice z 0 6 u4 = eb ∙ (rw s3 (splice-more z 0 4 2 u3 (bytes16 (e .bottom)) (omega arith) refl)) in
-    let s5 : c ≡ splice z 0 (6 + length t) (u4 ++ t) = ec ∙ (rw s4 (splice-more z 0 6 (length t) u4 t (omega arith) refl)) in
-    let k : 6 + length t ≡ length (u4 ++ t) = omega arith in
-    s5 ∙ (rw (k, ez) (front-written p (u4 ++ t) entry-size (sym l) (omega (arith, o .whole, o .few))))
-
--- ---- an entry put in, and one taken out
 
 -- however r is read, s has the entry e too, at place k
 pub record Entered (r s : List ℕ) (k : ℕ) (e : Running) : Type 0 where
   pub entered : (d : Device) (b : Book) {kinds counts : ℕ → ℕ} {columns : ℕ → List ℕ} → k ≡ place (e .number) b
       → Reads r (head-bytes d b) kinds counts columns (entry-part b) → Reads s (head-bytes d (insert e b)) kinds counts columns (entry-part (insert e b))
 
-pub entered-by : (r t s : List ℕ) (k n : ℕ) (e : Running) (v : List ℕ) → n ≡ getD r running-at 0 → n < max-running → k ≤ n
-    → v ≡ padded entry-size (entry-bytes e) → Moved r t (raised k n) → s ≡ set (splice t (entry-at k) entry-size v) running-at (n + 1) → Entered r s k e
-entered-by r t s k n e v en few le ev m es = record {
-  entered = λ d b ek x.
-      let nb : n ≡ length b = en ∙ running-read d b x in
-      let lv : length v ≡ entry-size = ap length ev ∙ length-padded entry-size (entry-bytes e) in
-      rw es (reads-book d b (insert e b) (n + 1) (reads-entry (m .moved x) k v (omega arith) lv) (omega (arith, length-insert e b)) (λ j q. rw (ek, nb, ev) (entry-insert e b j)));
-}
-
 -- however r is read, s lacks entry k
 pub record Removed (r s : List ℕ) (k : ℕ) : Type 0 where
   pub removed : (d : Device) (b : Book) {kinds counts : ℕ → ℕ} {columns : ℕ → List ℕ}
       → Reads r (head-bytes d b) kinds counts columns (entry-part b)
       → Reads s (head-bytes d (take k b ++ drop (suc k) b)) kinds counts columns (entry-part (take k b ++ drop (suc k) b))
-
-pub removed-by : (r t s : List ℕ) (k n : ℕ) (u v : List ℕ) → n + 1 ≡ getD r running-at 0 → n < max-running → k ≤ n → Moved r t (lowered k n)
-    → length u ≡ entry-size → v ≡ replicate (length u) 0 → s ≡ set (splice t (entry-at n) entry-size v) running-at n → Removed r s k
-removed-by r t s k n u v en few le m lu ev es = record {
-  removed = λ d b x.
-      let nb : n ≡ length b - 1 = omega (arith, running-read d b x) in
-      let q : k < length b = omega (arith, running-read d b x) in
-      let b′ : Book = take k b ++ drop (suc k) b in
-      let len : n ≡ length b′ = simp (length-append, length-take, length-drop) (omega (arith, running-read d b x)) in
-      let zv : v ≡ replicate entry-size 0 = ev ∙ ap (λ i. replicate {A = ℕ} i 0) lu in
-      let lv : length v ≡ entry-size = ap length ev ∙ length-replicate (length u) 0 ∙ lu in
-      rw es (reads-book d b b′ n (reads-entry (m .moved x) n v few lv) len (λ j q′. rw (nb, zv) (entry-remove b k j q)));
-}

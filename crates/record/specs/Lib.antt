@@ -1,10 +1,9 @@
--- What the contracts of `record` cite, and what is proved of it: a file for each module of src/, with its laws in a second where they are many.
-pub mod Device
+-- What the contracts of this crate cite beside the model. What is proved of it stands under Laws.
 pub mod Clear
+pub mod Columns
 pub mod Entries
 pub mod Enter
 pub mod Leave
 pub mod Fits
-pub mod FitsLaws
 pub mod Rebuild
-pub mod RebuildLaws
+pub mod Laws

@@ -1,44 +1,22 @@
 -- A record made again from what it says, entry by entry: what the contracts of `sound` and of what it calls say. Assumes nothing.
-use Prim.Native.Nat.{ℕ, zero, suc, _+_, _-_, _*_, _≤_, _<_}
+use Prim.Native.Nat.{ℕ, zero, suc, _≤_, _<_}
 use mathlib.Core.Path.{_≡_}
 use mathlib.Core.Bool.{Bool, true, false}
 use mathlib.Core.List.{List}
-use lib.ListN.{length, getD, take, drop}
-use Rattle.model.specs.Limits.{max-running, max-blocks, block-size, record-size, running-at, blocks-at}
-use Rattle.model.specs.Tasks.{word, sized, well-formed}
-use Rattle.model.specs.Book.{Running, Book, fits}
-use Rattle.model.specs.Record.{record-of, entry-at, device-of, book-of}
+use lib.ListN.{length, getD, take}
+use Rattle.model.specs.Limits.{max-running, max-blocks}
+use Rattle.model.specs.Tasks.{sized, well-formed}
+use Rattle.model.specs.Book.{Book, fits}
+use Rattle.model.specs.Record.{record-of, device-of, book-of}
 use Rattle.model.specs.Sound.{number-ok, within, block-count, sound}
 use Rattle.model.specs.Calls.{insert}
 use Rattle.model.specs.Laws.Record.{no-entry}
-
--- running task j of r
-abbrev pub entry-of : List ℕ → ℕ → Running
-entry-of r j = getD (book-of r) j no-entry
+use Rattle.record.specs.Entries.{entry-of}
 
 -- the number of the task before task j of a book, or m where there is none before it
 unfoldable pub prior : ℕ → Book → ℕ → ℕ
 prior m b zero = m
 prior m b (suc j) = getD b j no-entry .number
-
--- the bytes of entry j's blocks, as a part of r from the entry's seventh byte on
-abbrev pub blocks-of : List ℕ → ℕ → List ℕ
-blocks-of r j = take (entry-at j + blocks-at + block-size * block-count r j - (entry-at j + blocks-at)) (drop (entry-at j + blocks-at) r)
-
--- running task j of r, as the bytes of its entry say it
-abbrev pub said : List ℕ → ℕ → Running
-said r j = record {
-  number = word r (entry-at j);
-  column = getD r (entry-at j + 2) 0;
-  bottom = word r (entry-at j + 4);
-  task = blocks-of r j;
-}
-
--- r has the length of a record, and entry j is one of its running tasks
-pub record HasEntry (r : List ℕ) (j : ℕ) : Type 0 where
-  pub size : length r ≡ record-size
-  pub few : getD r running-at 0 ≤ max-running
-  pub runs : j < getD r running-at 0
 
 -- entry j of r has a number that rises, and 1 to 32 blocks
 pub record Passes (r : List ℕ) (j : ℕ) : Type 0 where

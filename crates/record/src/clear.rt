@@ -2,10 +2,12 @@
 use model::COLUMN_SIZE;
 use model::COLUMNS_AT;
 use model::COUNTS_AT;
+use model::INTERVAL_TOP_AT;
 use model::INTERVALS_AT;
 use model::KINDS_AT;
 use model::Kind;
 use model::KindRead;
+use model::ROWS_AT;
 use words::put16;
 use words::wipe;
 ghost use mathlib.Core.Path.{_≡_};
@@ -37,7 +39,7 @@ fn free_part(part: &mut [u8], top: u32)
     ensures { λ _. ⌜ now (part .exit) ≡ column-part (interval 0 top ∷ []) ⌝ }
 {
     put16(part, 0, 0);
-    put16(part, 2, top);
+    put16(part, INTERVAL_TOP_AT, top);
 }
 
 // Gives column c its kind, and frees all its cells.
@@ -62,7 +64,7 @@ pub fn clear(record: &mut [u8], rows: u32, kinds: &[u8])
     ensures { λ _. ⌜ now («record» .exit) ≡ record-of (record { rows = rows; kinds = now (kinds .entry) }) [] ⌝ }
 {
     wipe(record);
-    put16(record, 0, rows);
+    put16(record, ROWS_AT, rows);
     record[COLUMNS_AT] = kinds.len() as u8;
     let mut c = 0;
     while c < kinds.len() {

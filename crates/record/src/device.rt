@@ -5,16 +5,13 @@ ghost use Rattle.model.specs.Limits.{max-kind};
 ghost use Rattle.model.specs.Bounded.{all-in};
 ghost use Rattle.model.specs.Columns.{device-ok};
 
-// The highest kind byte.
-const MAX_KIND: u8 = 2;
-
 // Whether each is a kind byte.
 fn kinds_ok(kinds: &[u8]) -> bool
     ensures { λ r. ⌜ r ≡ all-in (λ k. leb k max-kind) (now (kinds .entry)) ⌝ }
 {
     let mut i = 0;
     while i < kinds.len() {
-        if kinds[i] > MAX_KIND {
+        if kinds[i] > model::MAX_KIND {
             return false;
         }
         i += 1;

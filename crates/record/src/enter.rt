@@ -20,7 +20,8 @@ ghost use Rattle.model.specs.Record.{part, column-at, record-of, device-of, boo
 ghost use Rattle.model.specs.Sound.{count-of, number-ok};
 ghost use Rattle.model.specs.Laws.Record.{put-column};
 ghost use Rattle.column.specs.Part.{Room};
-ghost use Rattle.record.specs.Enter.{column-list, Placeable, taken};
+ghost use Rattle.record.specs.Columns.{column-list};
+ghost use Rattle.record.specs.Enter.{taken, Placeable};
 
 // Cuts bottom..top out of the intervals of column c.
 fn cut_column(record: &mut [u8], c: usize, bottom: u32, top: u32)

@@ -2,6 +2,9 @@
 use model::BLOCK_SIZE;
 use model::BLOCKS_AT;
 use model::ENTRIES_AT;
+use model::ENTRY_BOTTOM_AT;
+use model::ENTRY_COLUMN_AT;
+use model::ENTRY_COUNT_AT;
 use model::ENTRY_SIZE;
 use model::RUNNING_AT;
 use words::copy;
@@ -22,13 +25,6 @@ ghost use Rattle.model.specs.Laws.Parts.{splice};
 ghost use Rattle.model.specs.Laws.Slots.{raised, lowered};
 ghost use Rattle.model.specs.Laws.Entries.{place};
 ghost use Rattle.record.specs.Entries.{Finds, Says, Moved, Entered, Removed};
-
-// Where an entry's fields stand in its bytes.
-const COLUMN_AT: usize = 2;
-
-const COUNT_AT: usize = 3;
-
-const BOTTOM_AT: usize = 4;
 
 // Where the task of a number runs.
 pub enum Found {
@@ -67,10 +63,10 @@ pub fn read_entry(record: &[u8], j: usize) -> Entry
     ensures { λ r. ⌜ Says (now («record» .entry)) j r ⌝ }
 {
     let at = ENTRIES_AT + ENTRY_SIZE * j;
-    let count = wide(record[at + COUNT_AT]) as usize;
+    let count = wide(record[at + ENTRY_COUNT_AT]) as usize;
     Entry {
-        column: wide(record[at + COLUMN_AT]),
-        bottom: get16(record, at + BOTTOM_AT),
+        column: wide(record[at + ENTRY_COLUMN_AT]),
+        bottom: get16(record, at + ENTRY_BOTTOM_AT),
         count: count,
         from: at + BLOCKS_AT,
         to: at + BLOCKS_AT + BLOCK_SIZE * count,
@@ -153,9 +149,9 @@ fn write_entry(entry: &mut [u8], task: &[u8], number: u32, column: u32, bottom: 
 {
     wipe(entry);
     put16(entry, 0, number);
-    entry[COLUMN_AT] = column as u8;
-    entry[COUNT_AT] = (task.len() / BLOCK_SIZE) as u8;
-    put16(entry, BOTTOM_AT, bottom);
+    entry[ENTRY_COLUMN_AT] = column as u8;
+    entry[ENTRY_COUNT_AT] = (task.len() / BLOCK_SIZE) as u8;
+    put16(entry, ENTRY_BOTTOM_AT, bottom);
     let a = BLOCKS_AT;
     let e = a + task.len();
     copy(&mut entry[a..e], task);

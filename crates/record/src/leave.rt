@@ -19,7 +19,7 @@ ghost use Rattle.model.specs.Record.{part, column-at, record-of, device-of, boo
 ghost use Rattle.model.specs.Sound.{sound, count-of};
 ghost use Rattle.model.specs.Laws.Record.{put-column};
 ghost use Rattle.column.specs.Part.{Joinable};
-ghost use Rattle.record.specs.Enter.{column-list};
+ghost use Rattle.record.specs.Columns.{column-list};
 ghost use Rattle.record.specs.Leave.{Runs, freed-entry};
 
 // Joins bottom..top to the intervals of column c.

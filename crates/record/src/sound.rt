@@ -11,6 +11,7 @@ use model::MAX_BLOCKS;
 use model::MAX_COLUMNS;
 use model::MAX_RUNNING;
 use model::RECORD_SIZE;
+use model::ROWS_AT;
 use model::RUNNING_AT;
 use task::well_formed;
 use words::equal;
@@ -24,7 +25,8 @@ ghost use lib.Dec.{ltb};
 ghost use Rattle.model.specs.Limits.{record-size, running-at};
 ghost use Rattle.model.specs.Record.{book-of};
 ghost use Rattle.model.specs.Sound.{sound};
-ghost use Rattle.record.specs.Rebuild.{entry-of, prior, HasEntry, Ready, Tried, Rebuilt, Step};
+ghost use Rattle.record.specs.Entries.{entry-of, HasEntry};
+ghost use Rattle.record.specs.Rebuild.{prior, Ready, Tried, Rebuilt, Step};
 
 // Whether the number of running entry j is above that of the entry before it, and the first is 1 or more.
 fn rises(record: &[u8], j: usize) -> bool
@@ -106,7 +108,7 @@ pub fn sound(record: &[u8]) -> bool
     if record.len() != RECORD_SIZE {
         return false;
     }
-    let rows = get16(record, 0);
+    let rows = get16(record, ROWS_AT);
     let columns = wide(record[COLUMNS_AT]) as usize;
     if columns > MAX_COLUMNS {
         return false;

@@ -2,24 +2,16 @@
 // The model's definitions are those of model/specs/Tasks.antt; specs/ here ties the code's blocks to the model's.
 use model::Kind;
 use model::KindRead;
+use words::get16;
+use words::wide;
 ghost use mathlib.Core.Path.{_≡_};
 ghost use Prim.Native.Nat.{_+_, _*_, _≤_, _<_};
 ghost use lib.ListN.{length, getD};
 ghost use lib.Dec.{eqb};
 ghost use Rattle.model.specs.Limits.{block-size, max-kind, words};
 ghost use Rattle.model.specs.Columns.{height, kind-C};
-ghost use Rattle.model.specs.Tasks.{word, lifted, block, sized, block-ok, follows, well-formed, step};
+ghost use Rattle.model.specs.Tasks.{lifted, block, sized, block-ok, follows, well-formed, step};
 ghost use Rattle.task.specs.Blocks.{seen, Same, Reads, ReadsSolid, starts};
-
-// How many numbers two bytes hold.
-const WORDS: u32 = 65536;
-
-// Where a block's fields stand in its bytes.
-const KIND_AT: usize = 1;
-
-const BOTTOM_AT: usize = 2;
-
-const TOP_AT: usize = 4;
 
 // A block: low and high are its bottom and top plus REACH, so that neither is negative.
 pub struct Block {
@@ -45,27 +37,12 @@ impl Block {
     }
 }
 
-// A byte as a number.
-fn wide(x: u8) -> u32
-    ensures { λ r. ⌜ (r ≡ x) × (r < 256) ⌝ }
-{
-    x as u32
-}
-
-// The two-byte number that starts at byte at.
-fn word_at(s: &[u8], at: usize) -> u32
-    requires { ⌜ at + 2 ≤ length (now s) ⌝ }
-    ensures { λ r. ⌜ (r ≡ word (now (s .entry)) at) × (r < words) ⌝ }
-{
-    wide(s[at]) + 256 * wide(s[at + 1])
-}
-
 // A signed bottom or top plus REACH.
 fn lift(v: u32) -> u32
     requires { ⌜ v < words ⌝ }
     ensures { λ r. ⌜ r ≡ lifted v ⌝ }
 {
-    (v + model::REACH) % WORDS
+    (v + model::REACH) % model::WORDS
 }
 
 // Block i of a task.
@@ -74,14 +51,14 @@ pub fn read_block(task: &[u8], i: usize) -> BlockRead
     ensures { λ r. ⌜ Reads r (block (now (task .entry)) i) ⌝ }
 {
     let at = model::BLOCK_SIZE * i;
-    let KindRead::Known(kind) = Kind::of_byte(task[at + KIND_AT]) else {
+    let KindRead::Known(kind) = Kind::of_byte(task[at + model::BLOCK_KIND_AT]) else {
         return BlockRead::Bad;
     };
     BlockRead::Of(Block {
         column: wide(task[at]),
         kind: kind,
-        low: lift(word_at(task, at + BOTTOM_AT)),
-        high: lift(word_at(task, at + TOP_AT)),
+        low: lift(get16(task, at + model::BLOCK_BOTTOM_AT)),
+        high: lift(get16(task, at + model::BLOCK_TOP_AT)),
     })
 }
 
@@ -166,7 +143,9 @@ fn starts_at_zero(task: &[u8]) -> bool
     if byte_or_zero(task, 0) != 0 {
         return false;
     }
-    byte_or_zero(task, BOTTOM_AT) + 256 * byte_or_zero(task, BOTTOM_AT + 1) == 0
+    let low = byte_or_zero(task, model::BLOCK_BOTTOM_AT);
+    let high = byte_or_zero(task, model::BLOCK_BOTTOM_AT + 1);
+    low + model::BYTES * high == 0
 }
 
 // Block i of a task, where by itself it is one of a well-formed task.
@@ -228,7 +207,7 @@ pub fn step(task: &[u8]) -> u32
     let mut other = false;
     let mut i = 0;
     while i < count {
-        let at = model::BLOCK_SIZE * i + KIND_AT;
+        let at = model::BLOCK_SIZE * i + model::BLOCK_KIND_AT;
         if is_logic(task[at]) {
             logic = true;
         } else {

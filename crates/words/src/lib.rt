@@ -22,7 +22,7 @@ pub fn get16(s: &[u8], at: usize) -> u32
     requires { ⌜ at + 1 < length (now s) ⌝ }
     ensures { λ r. ⌜ Read16 (now (s .entry)) at r ⌝ }
 {
-    wide(s[at]) + 256 * wide(s[at + 1])
+    wide(s[at]) + model::BYTES * wide(s[at + 1])
 }
 
 // Puts a number into the two bytes at `at`.
@@ -30,8 +30,8 @@ pub fn put16(s: &mut [u8], at: usize, v: u32)
     requires { ⌜ (at + 1 < length (now s)) × (v < words) ⌝ }
     ensures { λ _. ⌜ now (s .exit) ≡ splice (now (s .entry)) at 2 (bytes16 v) ⌝ }
 {
-    s[at] = (v % 256) as u8;
-    s[at + 1] = (v / 256) as u8;
+    s[at] = (v % model::BYTES) as u8;
+    s[at + 1] = (v / model::BYTES) as u8;
 }
 
 // Copies all of `from` over `to`.

@@ -1,7 +1,7 @@
 -- `choice::seat_at` meets its contract. Assumes nothing.
 use mathlib.Core.Path.{refl}
 use native.Mathlib.Omega.{arith}
-use Rattle.task.specs.Laws.{block-ready}
+use Rattle.task.specs.Laws.Blocks.{block-ready}
 use Rattle.choice.specs.Laws.Seats.{stood, seated}
 use borrow.Author.Needs.{needs}
 use Rattle.choice.proofs.seat_at.Statement.{statement}

@@ -4,22 +4,22 @@ use mathlib.Core.Path.{_≡_, refl, sym, ap, _∙_}
 use mathlib.Core.Logic.{_⊎_, inl, inr}
 use mathlib.Core.Bool.{Bool, true, false, not, cond}
 use mathlib.Core.List.{List, [], _∷_, map}
-use native.Mathlib.Nat.{mul-comm, mul-assoc, mul-le-mul-right, div-add-mod', mod-lt}
+use native.Mathlib.Nat.{mul-assoc, mul-le-mul-right, div-add-mod', mod-lt}
 use native.Mathlib.Omega.{arith}
 use lib.Dec.{eqb}
 use borrow.Author.Tests.{not-true}
 use Rattle.runs.specs.Laws.Tests.{lt-or-ge}
 use Rattle.runs.specs.Runs.{Run, run, Steps, In, Mem, From, Lists, runs}
 use Rattle.runs.specs.Laws.Runs.{lists-runs}
-use Rattle.runs.specs.Intervals.{Interval, Apart, Multiple, OnGrid, intervals as maximal-runs}
+use Rattle.runs.specs.Intervals.{Apart, Multiple, OnGrid}
 use Rattle.runs.specs.Laws.Intervals.{intervals-free}
 use Rattle.runs.specs.Meet.{Lcm}
 use Rattle.runs.specs.Laws.Both.{from-weaken, from-least, Spaced, Meeting}
 use Rattle.model.specs.Limits.{reach, max-rows}
 use Rattle.model.specs.Bounded.{any-below}
-use Rattle.model.specs.Columns.{Device, half-rows, height, kind-C, columns, kind, cells}
+use Rattle.model.specs.Columns.{Device, half-rows, height, kind-C, columns, kind}
 use Rattle.model.specs.Tasks.{blocks, block, step, well-formed}
-use Rattle.model.specs.Book.{Book, free, block-fits, fits, intervals, cell-free}
+use Rattle.model.specs.Book.{Book, free, block-fits, fits, intervals}
 use Rattle.model.specs.Sound.{within}
 use Rattle.model.specs.Laws.Bounded.{any-to, any-of-one, is-false, clash, all-to, all-of}
 use Rattle.model.specs.Laws.Columns.{height-pos}
@@ -27,22 +27,18 @@ use Rattle.model.specs.Laws.Tasks.{solid-block, first-block}
 use Rattle.model.specs.Laws.Fits.{fitting-to, fits-to, fits-below}
 use Rattle.model.specs.Laws.Steps.{fits-steps, step-two}
 use Rattle.model.specs.Laws.Limits.{limits-to}
-use Rattle.model.specs.Laws.Cells.{scaled, intervals-cells}
+use Rattle.model.specs.Laws.Cells.{intervals-grid}
 use Rattle.listing.specs.Bottoms.{lift, lowered, bottoms, Stand, Common, Standing}
 use Rattle.listing.specs.Laws.Bottoms.{multiple-sub, multiple-mod, bottoms-to, bottoms-of, whole-cells, fits-stood, stood-fits}
 
 -- ---- the intervals of a column
-
-scaled-grid : (h : ℕ) (L : List Interval) → OnGrid h (map (scaled h) L)
-scaled-grid h [] = tt
-scaled-grid h (i ∷ L) = ((i .bottom, mul-comm h (i .bottom)), (i .top, mul-comm h (i .top)), scaled-grid h L)
 
 pub column-apart : (d : Device) (b : Book) (c : ℕ) → Apart 0 (intervals d b c)
 unfolding intervals
 column-apart d b c = intervals-free (free d b c) _ .canon
 
 pub column-grid : (d : Device) (b : Book) (c : ℕ) → within d b ≡ true → OnGrid (height (kind d c)) (intervals d b c)
-column-grid d b c w = rw (intervals-cells d b w c) (scaled-grid (height (kind d c)) (maximal-runs (cell-free d b c) (cells d c)))
+column-grid d b c w = intervals-grid d b w c
 
 -- ---- the least common multiple of the heights of the first blocks
 

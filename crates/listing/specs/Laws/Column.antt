@@ -31,7 +31,7 @@ use Rattle.model.specs.Laws.Clauses.{clauses-to}
 use Rattle.model.specs.Laws.ReadBack.{getD-in}
 use Rattle.model.specs.Laws.Sound.{columns-said, listed-said, sound-length, sound-within}
 use Rattle.task.specs.Blocks.{seen, Same}
-use Rattle.task.specs.Laws.{same-seen, block-within}
+use Rattle.task.specs.Laws.Blocks.{same-seen, block-within}
 use Rattle.task.specs.declared.Block.{Block}
 use Rattle.listing.specs.Bottoms.{lift, lowered, Standing}
 use Rattle.listing.specs.Arrays.{max-runs, read, Room, Lowerable, bottom-at, top-at, Meetable, Met}

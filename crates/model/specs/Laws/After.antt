@@ -32,21 +32,21 @@ inside-held B c L k = any-in (λ i. leb (i .bottom) (k .bottom) && leb (k .top) 
 
 -- ---- lists of intervals
 
-append-to : (z : ℕ) (K M : List Interval) → Named z (K ++ M) → Named z K ⊎ Named z M
-append-to z [] M h = inr h
-append-to z (i ∷ K) M (inl h) = inl (inl h)
-append-to z (i ∷ K) M (inr h) = go (append-to z K M h)
+named-append-to : (z : ℕ) (K M : List Interval) → Named z (K ++ M) → Named z K ⊎ Named z M
+named-append-to z [] M h = inr h
+named-append-to z (i ∷ K) M (inl h) = inl (inl h)
+named-append-to z (i ∷ K) M (inr h) = go (named-append-to z K M h)
   where
     go : Named z K ⊎ Named z M → Named z (i ∷ K) ⊎ Named z M
     go (inl k) = inl (inr k)
     go (inr k) = inr k
 
-append-of : (z : ℕ) (K M : List Interval) → Named z K ⊎ Named z M → Named z (K ++ M)
-append-of z [] M (inl h) = absurd h
-append-of z [] M (inr h) = h
-append-of z (i ∷ K) M (inl (inl h)) = inl h
-append-of z (i ∷ K) M (inl (inr h)) = inr (append-of z K M (inl h))
-append-of z (i ∷ K) M (inr h) = inr (append-of z K M (inr h))
+named-append-of : (z : ℕ) (K M : List Interval) → Named z K ⊎ Named z M → Named z (K ++ M)
+named-append-of z [] M (inl h) = absurd h
+named-append-of z [] M (inr h) = h
+named-append-of z (i ∷ K) M (inl (inl h)) = inl h
+named-append-of z (i ∷ K) M (inl (inr h)) = inr (named-append-of z K M (inl h))
+named-append-of z (i ∷ K) M (inr h) = inr (named-append-of z K M (inr h))
 
 append-apart : (m hi : ℕ) (K M : List Interval) → m ≤ suc hi → Apart m K → Inside hi K → Apart (suc hi) M → Apart m (K ++ M)
 append-apart m hi [] M l c i d = apart-weaken m (suc hi) M l d
@@ -117,7 +117,7 @@ module _ (B : Placed) (c : ℕ) where
   flat-to : (z : ℕ) (K : List Interval) → Named z (flat K) → Named z K × (covered B c z ≡ false)
   unfolding flat join-in
   flat-to z [] h = absurd h
-  flat-to z (i ∷ K) h = go (flat-to z K) (append-to z (left-in B c i) (flat K) h)
+  flat-to z (i ∷ K) h = go (flat-to z K) (named-append-to z (left-in B c i) (flat K) h)
     where
       go : (Named z (flat K) → Named z K × (covered B c z ≡ false)) → Named z (left-in B c i) ⊎ Named z (flat K) → Named z (i ∷ K) × (covered B c z ≡ false)
       go rest (inl k) = let (p, q, e) = left-to z i k in (inl (p, q), e)
@@ -126,8 +126,8 @@ module _ (B : Placed) (c : ℕ) where
   flat-of : (z : ℕ) (K : List Interval) → Named z K → covered B c z ≡ false → Named z (flat K)
   unfolding flat join-in
   flat-of z [] h e = absurd h
-  flat-of z (i ∷ K) (inl h) e = append-of z (left-in B c i) (flat K) (inl (left-of z i (h .0) (h .1) e))
-  flat-of z (i ∷ K) (inr h) e = append-of z (left-in B c i) (flat K) (inr (flat-of z K h e))
+  flat-of z (i ∷ K) (inl h) e = named-append-of z (left-in B c i) (flat K) (inl (left-of z i (h .0) (h .1) e))
+  flat-of z (i ∷ K) (inr h) e = named-append-of z (left-in B c i) (flat K) (inr (flat-of z K h e))
 
   -- an interval that starts below all of K is inside none of them
   inside-none : (k : Interval) (m : ℕ) (K : List Interval) → Apart m K → k .bottom < m → inside-held B c K k ≡ false

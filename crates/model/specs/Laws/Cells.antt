@@ -5,14 +5,14 @@ use mathlib.Core.Path.{_≡_, refl, sym, ap, ap₂, _∙_}
 use mathlib.Core.Logic.{inl, inr}
 use mathlib.Core.Bool.{Bool, true, not, _&&_, _||_}
 use mathlib.Core.List.{List, [], _∷_, map}
-use native.Mathlib.Nat.{mul-div-le, div-add-mod, div-add-mod', mod-lt, div-lt-iff-lt-mul, le-div-iff-mul-le, mul-le-mul-left, mul-le-mul-right, mul-lt-mul-of-pos-left, lt-of-mul-lt-mul-left}
+use native.Mathlib.Nat.{mul-comm, mul-div-le, div-add-mod, div-add-mod', mod-lt, div-lt-iff-lt-mul, le-div-iff-mul-le, mul-le-mul-left, mul-le-mul-right, mul-lt-mul-of-pos-left, lt-of-mul-lt-mul-left}
 use native.Mathlib.Omega.{arith}
 use lib.Dec.{leb, ltb, eqb}
 use lib.ListN.{length, length-map}
 use borrow.Author.Tests.{le-leb, lt-ltb, eq-eqb}
 use Rattle.runs.specs.Laws.Tests.{tests}
 use Rattle.runs.specs.Laws.Runs.{in-step-one, runs-count}
-use Rattle.runs.specs.Intervals.{Interval, interval, Named, Apart, Multiple, intervals as maximal-runs}
+use Rattle.runs.specs.Intervals.{Interval, interval, Named, Apart, Multiple, OnGrid, intervals as maximal-runs}
 use Rattle.runs.specs.Laws.Intervals.{apart-weaken, intervals-free, free-intervals}
 use Rattle.model.specs.Limits.{reach, max-intervals}
 use Rattle.model.specs.Bounded.{any-in}
@@ -32,6 +32,10 @@ use Rattle.model.specs.Laws.Limits.{Entry, limits-to}
 -- the half rows of the cells that i names
 abbrev pub scaled : ℕ → Interval → Interval
 scaled h i = interval (h * i .bottom) (h * i .top)
+
+scaled-grid : (h : ℕ) (L : List Interval) → OnGrid h (map (scaled h) L)
+scaled-grid h [] = tt
+scaled-grid h (i ∷ L) = ((i .bottom, mul-comm h (i .bottom)), (i .top, mul-comm h (i .top)), scaled-grid h L)
 
 module _ (h : ℕ) (p : 1 ≤ h) where
   scaled-apart : (m : ℕ) (L : List Interval) → Apart m L → Apart (h * m) (map (scaled h) L)
@@ -157,6 +161,10 @@ module _ (d : Device) (b : Book) (w : within d b ≡ true) (c : ℕ) where
   pub intervals-cells : intervals d b c ≡ map (scaled (height (kind d c))) (maximal-runs (cell-free d b c) (cells d c))
   unfolding intervals top top-in cells
   intervals-cells = whole-cells (height (kind d c)) (height-pos (kind d c)) (cells d c) (free d b c) (cell-free d b c) (λ k i l g. free-cell k i g)
+
+  -- so they begin and end on the grid
+  pub intervals-grid : OnGrid (height (kind d c)) (intervals d b c)
+  intervals-grid = rw intervals-cells (scaled-grid (height (kind d c)) (maximal-runs (cell-free d b c) (cells d c)))
 
   -- THEOREM: a column has at most 64 free intervals
   pub few-intervals : length (intervals d b c) ≤ max-intervals

@@ -1,10 +1,10 @@
--- A column's part of the record: its intervals read one by one, and one of them replaced or put behind the last. Assumes nothing.
-use Prim.Native.Nat.{ℕ, zero, suc, _+_, _*_, _≤_, _<_}
+-- A column's part of the record: its intervals read one by one, and one more put behind the last. Assumes nothing.
+use Prim.Native.Nat.{ℕ, _+_, _*_, _≤_, _<_}
 use mathlib.Core.Path.{_≡_, refl, sym, ap, _∙_}
 use mathlib.Core.List.{List, [], _∷_, _++_, map}
 use native.Mathlib.Omega.{arith}
 use native.Mathlib.Nat.{add-zero, add-assoc}
-use lib.ListN.{length, getD, set, length-map}
+use lib.ListN.{length, getD, length-map}
 use Rattle.runs.specs.Intervals.{Interval}
 use Rattle.model.specs.Limits.{max-columns, max-intervals, words, column-size, interval-size}
 use Rattle.model.specs.Bounded.{join-below}
@@ -12,8 +12,9 @@ use Rattle.model.specs.Columns.{Device}
 use Rattle.model.specs.Tasks.{word}
 use Rattle.model.specs.Book.{Book, intervals}
 use Rattle.model.specs.Record.{bytes16, interval-bytes, slot, slots, column-part, record-of, part, column-at}
-use Rattle.model.specs.Laws.Parts.{splice, part-part, getD-part, join-cong, part-join-front}
-use Rattle.model.specs.Laws.Slots.{length-slot, part-slots, slot-map, padded-full, slots-set, slots-push}
+use Rattle.model.specs.Laws.Parts.{splice, part-part, getD-part, join-cong}
+use Rattle.model.specs.Laws.Tables.{part-join-front}
+use Rattle.model.specs.Laws.Slots.{length-slot, part-slots, slot-map, padded-full, slots-push}
 use Rattle.model.specs.Laws.Record.{word-is, record-column}
 
 -- a two-byte number of a part
@@ -61,24 +62,11 @@ record-view d b c i q few =
     rw e (sym (rw add-zero at (part-part (record-of d b) (column-at c) column-size 0 (n * interval-size) (omega arith))) ∙ ap (λ p. part p 0 (n * interval-size)) (record-column d b c q)
     ∙ column-front (intervals d b c) i few)
 
--- an interval replaced, and one put behind the last
-
-map-set : (l : List Interval) (i : ℕ) (x : Interval) → map interval-bytes (set l i x) ≡ set (map interval-bytes l) i (interval-bytes x)
-map-set [] i x = refl
-map-set (y ∷ l) zero x = refl
-map-set (y ∷ l) (suc i) x = ap (λ m. interval-bytes y ∷ m) (map-set l i x)
+-- an interval put behind the last
 
 map-push : (l : List Interval) (x : Interval) → map interval-bytes (l ++ (x ∷ [])) ≡ map interval-bytes l ++ (interval-bytes x ∷ [])
 map-push [] x = refl
 map-push (y ∷ l) x = ap (λ m. interval-bytes y ∷ m) (map-push l x)
-
--- interval i replaced
-pub column-set : (is : List Interval) (i : ℕ) (x : Interval) → i < max-intervals → i < length is
-    → splice (column-part is) (interval-size * i) interval-size (interval-bytes x) ≡ column-part (set is i x)
-unfolding column-part
-column-set is i x q h =
-    slots-set max-intervals interval-size (map interval-bytes is) i (interval-bytes x) q (omega (arith, length-map is interval-bytes)) (unfold interval-bytes bytes16 in refl)
-    ∙ ap (slots max-intervals interval-size) (sym (map-set is i x))
 
 -- one more interval
 pub column-push : (is : List Interval) (x : Interval) → length is < max-intervals

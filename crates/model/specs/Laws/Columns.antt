@@ -1,10 +1,9 @@
 -- Heights, cells and tops: what holds of them for every kind. Assumes nothing.
-use Prim.Native.Nat.{ℕ, _≤_}
-use native.Mathlib.Nat.{mul-div-le, mul-comm}
+use Prim.Native.Nat.{ℕ, _*_, _≤_}
+use native.Mathlib.Nat.{mul-div-le}
 use native.Mathlib.Omega.{arith}
 use lib.Dec.{eqb}
 use Rattle.runs.specs.Laws.Tests.{cond-ind}
-use Rattle.runs.specs.Intervals.{Multiple}
 use Rattle.model.specs.Columns.{height, kind-C, cells-in, top-in, Device, half-rows, kind, top}
 
 -- every height is 2 or more
@@ -16,11 +15,10 @@ pub height-pos : (k : ℕ) → 1 ≤ height k
 height-pos k = omega (arith, height-two k)
 
 -- the last cell ends on the device
-pub top-le : (d : Device) (c : ℕ) → top d c ≤ half-rows d
-unfolding top top-in cells-in
-top-le d c = omega (arith, mul-div-le (half-rows d) (height (kind d c)))
+pub top-in-le : (rows k : ℕ) → top-in rows k ≤ 2 * rows
+unfolding top-in cells-in
+top-in-le rows k = mul-div-le (2 * rows) (height k)
 
--- on a multiple of the height
-pub top-multiple : (d : Device) (c : ℕ) → Multiple (height (kind d c)) (top d c)
-unfolding top top-in
-top-multiple d c = (cells-in (d .rows) (kind d c), mul-comm (height (kind d c)) (cells-in (d .rows) (kind d c)))
+pub top-le : (d : Device) (c : ℕ) → top d c ≤ half-rows d
+unfolding top
+top-le d c = top-in-le (d .rows) (kind d c)

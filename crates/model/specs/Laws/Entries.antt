@@ -1,23 +1,21 @@
 -- The entries of a record when a task is put into the book and when one is taken out. Assumes nothing.
 use Prim.Native.Nat.{ℕ, zero, suc, _-_, _≤_, _<_}
-use mathlib.Core.Path.{_≡_, refl, sym, ap, _∙_}
+use mathlib.Core.Path.{_≡_, refl, sym, ap}
 use mathlib.Core.Bool.{Bool, true, false, cond, _||_}
 use mathlib.Core.List.{List, [], _∷_, _++_, map}
 use native.Mathlib.Omega.{arith}
 use lib.Dec.{eqb, ltb}
-use borrow.Author.Tests.{eq-eqb}
-use lib.ListN.{length, getD, set, take, drop, replicate, length-map}
-use lib.Seq.{split-at}
+use lib.ListN.{length, set, take, drop, replicate, length-map}
 use Rattle.model.specs.Limits.{max-running, running-at, entry-size}
 use Rattle.model.specs.Bounded.{any-in}
 use Rattle.model.specs.Columns.{Device}
 use Rattle.model.specs.Book.{Running, Book}
 use Rattle.model.specs.Record.{bytes16, padded, entry-bytes, head-bytes, entry-part}
 use Rattle.model.specs.Calls.{insert, without, runs-in}
-use Rattle.model.specs.Laws.Parts.{changed}
+use Rattle.model.specs.Laws.Changed.{changed}
 use Rattle.model.specs.Laws.Bounded.{map-append}
 use Rattle.model.specs.Laws.Slots.{raised, lowered, slot-insert, slot-remove}
-use Rattle.model.specs.Laws.Record.{Reads, reads-head, reads-cong, no-entry}
+use Rattle.model.specs.Laws.Layout.{Reads, reads-head, reads-cong}
 
 -- where insert puts an entry
 unfoldable pub place : ℕ → Book → ℕ
@@ -46,19 +44,6 @@ without-none n [] h = refl
 without-none n (f ∷ b) h =
     let o = or-none (eqb (f .number) n) (runs-in b n) h in
     rw (o .0) (ap (λ l. f ∷ l) (without-none n b (o .1)))
-
--- THEOREM: the one entry of that number is taken out, and the others stay in their order
-pub without-split : (n : ℕ) (u v : Book) (e : Running) → e .number ≡ n → runs-in u n ≡ false → runs-in v n ≡ false → without n (u ++ e ∷ v) ≡ u ++ v
-unfolding without runs-in any-in
-without-split n [] v e p hu hv = rw (eq-eqb (e .number) n p) (without-none n v hv)
-without-split n (f ∷ u) v e p hu hv =
-    let o = or-none (eqb (f .number) n) (runs-in u n) hu in
-    rw (o .0) (ap (λ l. f ∷ l) (without-split n u v e p (o .1) hv))
-
--- the same, by the place of the entry
-pub without-at : (n : ℕ) (b : Book) (k : ℕ) → k < length b → getD b k no-entry .number ≡ n → runs-in (take k b) n ≡ false → runs-in (drop (suc k) b) n ≡ false
-    → without n b ≡ take k b ++ drop (suc k) b
-without-at n b k q p hu hv = ap (without n) (split-at b k no-entry q) ∙ without-split n (take k b) (drop (suc k) b) (getD b k no-entry) p hu hv
 
 -- one entry more
 pub length-insert : (e : Running) (b : Book) → length (insert e b) ≡ suc (length b)

@@ -74,10 +74,10 @@ share-of d e f h =
 abbrev pub AllParted : Device → Book → Type 0
 AllParted d b = (e f : Running) → In e b → In f b → ¬ (e .number ≡ f .number) → Parted d e f
 
-apart-to : (d : Device) (b : Book) → apart d b ≡ true → AllParted d b
+parted-to : (d : Device) (b : Book) → apart d b ≡ true → AllParted d b
 unfolding apart
-apart-to d [] h e f i j n = absurd i
-apart-to d (g ∷ b) h e f i j n = let (first, rest) = and-to (all-in (λ f. not (share d g f)) b) (apart d b) h in go first (λ i j. apart-to d b rest e f i j n) i j
+parted-to d [] h e f i j n = absurd i
+parted-to d (g ∷ b) h e f i j n = let (first, rest) = and-to (all-in (λ f. not (share d g f)) b) (apart d b) h in go first (λ i j. parted-to d b rest e f i j n) i j
   where
     go : all-in (λ f. not (share d g f)) b ≡ true → (In e b → In f b → Parted d e f) → In e (g ∷ b) → In f (g ∷ b) → Parted d e f
     go first rest (inl p) (inl q) = absurd (n (ap (λ (x : Running). x .number) (p ∙ sym q)))
@@ -85,13 +85,13 @@ apart-to d (g ∷ b) h e f i j n = let (first, rest) = and-to (all-in (λ f. not
     go first rest (inr i) (inl q) = rw q (λ c k l r x y. share-to d g e (not-true (share d g e) (all-in-to (λ f. not (share d g f)) b first e i)) c k l r y x)
     go first rest (inr i) (inr j) = rest i j
 
-apart-of : (d : Device) (m : ℕ) (b : Book) → Rising m b → AllParted d b → apart d b ≡ true
+parted-of : (d : Device) (m : ℕ) (b : Book) → Rising m b → AllParted d b → apart d b ≡ true
 unfolding apart
-apart-of d m [] r h = refl
-apart-of d m (g ∷ b) r h =
+parted-of d m [] r h = refl
+parted-of d m (g ∷ b) r h =
     and-of (all-in (λ f. not (share d g f)) b) (apart d b)
     (all-in-of (λ f. not (share d g f)) b (λ f j. rw (share-of d g f (h g f (inl refl) (inr j) (λ q. omega (arith, rising-above (g .number) b (r .1) f j))))))
-    (apart-of d (g .number) b (r .1) (λ e f i j n. h e f (inr i) (inr j) n))
+    (parted-of d (g .number) b (r .1) (λ e f i j n. h e f (inr i) (inr j) n))
 
 -- ---- the limits
 
@@ -154,7 +154,7 @@ limits-to d b w =
       few = omega tests;
       entries = entry;
       rising = book-rising b (λ e i. entry e i .number-one) u3;
-      parted = apart-to d b u5;
+      parted = parted-to d b u5;
     }
 
 -- and what is enough for them
@@ -168,7 +168,7 @@ within-of d b v l n r a =
       rising-of 0 b r,
       all-in-of (task-ok d) b (λ e i. entry-task d e (n e i)),
     )
-    (apart-of d 0 b r a)
+    (parted-of d 0 b r a)
 
 -- every column's kind is 0 to 2; where there is no column, it is read as 0
 pub kind-le : (d : Device) (b : Book) → Limits d b → (c : ℕ) → kind d c ≤ max-kind

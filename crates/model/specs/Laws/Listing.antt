@@ -138,35 +138,35 @@ module _ (d : Device) (b : Book) (t : List ℕ) (n : sized t ≡ true) where
 -- ---- what stands in a listing
 
 module _ {A : Type 0} (x : A) where
-  append-to : (K L : List A) → In x (K ++ L) → In x K ⊎ In x L
-  append-to [] L h = inr h
-  append-to (y ∷ K) L (inl q) = inl (inl q)
-  append-to (y ∷ K) L (inr h) = go (append-to K L h)
+  in-append-to : (K L : List A) → In x (K ++ L) → In x K ⊎ In x L
+  in-append-to [] L h = inr h
+  in-append-to (y ∷ K) L (inl q) = inl (inl q)
+  in-append-to (y ∷ K) L (inr h) = go (in-append-to K L h)
     where
       go : In x K ⊎ In x L → In x (y ∷ K) ⊎ In x L
       go (inl i) = inl (inr i)
       go (inr i) = inr i
 
-  append-of : (K L : List A) → In x K ⊎ In x L → In x (K ++ L)
-  append-of [] L (inl i) = absurd i
-  append-of [] L (inr i) = i
-  append-of (y ∷ K) L (inl (inl q)) = inl q
-  append-of (y ∷ K) L (inl (inr i)) = inr (append-of K L (inl i))
-  append-of (y ∷ K) L (inr i) = inr (append-of K L (inr i))
+  in-append-of : (K L : List A) → In x K ⊎ In x L → In x (K ++ L)
+  in-append-of [] L (inl i) = absurd i
+  in-append-of [] L (inr i) = i
+  in-append-of (y ∷ K) L (inl (inl q)) = inl q
+  in-append-of (y ∷ K) L (inl (inr i)) = inr (in-append-of K L (inl i))
+  in-append-of (y ∷ K) L (inr i) = inr (in-append-of K L (inr i))
 
-  join-to : (n : ℕ) (f : ℕ → List A) → In x (join-below n f) → (i : ℕ) × (i < n) × In x (f i)
+  in-join-to : (n : ℕ) (f : ℕ → List A) → In x (join-below n f) → (i : ℕ) × (i < n) × In x (f i)
   unfolding join-below
-  join-to zero f h = absurd h
-  join-to (suc n) f h = go (join-to n f) (append-to (join-below n f) (f n) h)
+  in-join-to zero f h = absurd h
+  in-join-to (suc n) f h = go (in-join-to n f) (in-append-to (join-below n f) (f n) h)
     where
       go : (In x (join-below n f) → (i : ℕ) × (i < n) × In x (f i)) → In x (join-below n f) ⊎ In x (f n) → (i : ℕ) × (i < suc n) × In x (f i)
       go rest (inl k) = let (i, l, m) = rest k in (i, omega arith, m)
       go rest (inr k) = (n, omega arith, k)
 
-  join-of : (n i : ℕ) (f : ℕ → List A) → i < n → In x (f i) → In x (join-below n f)
+  in-join-of : (n i : ℕ) (f : ℕ → List A) → i < n → In x (f i) → In x (join-below n f)
   unfolding join-below
-  join-of zero i f l m = absurd (omega arith)
-  join-of (suc n) i f l m = append-of (join-below n f) (f n) (go (λ k. join-of n i f k m) (lt-or-ge i n))
+  in-join-of zero i f l m = absurd (omega arith)
+  in-join-of (suc n) i f l m = in-append-of (join-below n f) (f n) (go (λ k. in-join-of n i f k m) (lt-or-ge i n))
     where
       go : (i < n → In x (join-below n f)) → (i < n) ⊎ (n ≤ i) → In x (join-below n f) ⊎ In x (f n)
       go rest (inl k) = inl (rest k)
@@ -175,7 +175,7 @@ module _ {A : Type 0} (x : A) where
 those-to : (y n : ℕ) (f : ℕ → Bool) → In y (those-below n f) → (y < n) × (f y ≡ true)
 unfolding those-below
 those-to y zero f h = absurd h
-those-to y (suc n) f h = go (those-to y n f) (append-to y (those-below n f) (cond (f n) (n ∷ []) []) h)
+those-to y (suc n) f h = go (those-to y n f) (in-append-to y (those-below n f) (cond (f n) (n ∷ []) []) h)
   where
     last : f n ≡ true → In y (n ∷ []) → (y < suc n) × (f y ≡ true)
     last e (inl q) = (omega arith, ap f q ∙ e)
@@ -187,7 +187,7 @@ those-to y (suc n) f h = go (those-to y n f) (append-to y (those-below n f) (con
 those-of : (y n : ℕ) (f : ℕ → Bool) → y < n → f y ≡ true → In y (those-below n f)
 unfolding those-below
 those-of y zero f l e = absurd (omega arith)
-those-of y (suc n) f l e = append-of y (those-below n f) (cond (f n) (n ∷ []) []) (go (λ k. those-of y n f k e) (lt-or-ge y n))
+those-of y (suc n) f l e = in-append-of y (those-below n f) (cond (f n) (n ∷ []) []) (go (λ k. those-of y n f k e) (lt-or-ge y n))
   where
     go : (y < n → In y (those-below n f)) → (y < n) ⊎ (n ≤ y) → In y (those-below n f) ⊎ In y (cond (f n) (n ∷ []) [])
     go rest (inl k) = inl (rest k)
@@ -208,13 +208,13 @@ pub in-fitting : (d : Device) (b : Book) (t : List ℕ) (p y : ℕ) → In (posi
 unfolding fitting
 in-fitting d b t p y = (
   λ h.
-      let (q, l, i) = join-to (position p y) (columns d) (λ p. map (position p) (those-below (half-rows d) (fits d b t p))) h in
+      let (q, l, i) = in-join-to (position p y) (columns d) (λ p. map (position p) (those-below (half-rows d) (fits d b t p))) h in
       let (z, j, e) = map-to (position q) (those-below (half-rows d) (fits d b t q)) (position p y) i in
       let (k, f) = those-to z (half-rows d) (fits d b t q) j in
       let u : p ≡ q = ap (λ (x : Position). x .column) e in
       let v : y ≡ z = ap (λ (x : Position). x .bottom) e in
       (omega arith, omega arith, ap₂ (fits d b t) u v ∙ f),
   λ (l, k, f).
-      join-of (position p y) (columns d) p (λ p. map (position p) (those-below (half-rows d) (fits d b t p))) l
+      in-join-of (position p y) (columns d) p (λ p. map (position p) (those-below (half-rows d) (fits d b t p))) l
       (map-of (position p) (those-below (half-rows d) (fits d b t p)) y (those-of y (half-rows d) (fits d b t p) k f)),
 )

@@ -2,56 +2,15 @@
 -- Assumes nothing.
 use Prim.Native.Nat.{ℕ, zero, suc, _+_, _-_, _*_, _≤_, _<_}
 use mathlib.Core.Path.{_≡_, refl, sym, ap, ap₂, _∙_}
-use mathlib.Core.Bool.{cond}
 use mathlib.Core.List.{List, [], _∷_, _++_, append-assoc}
 use native.Mathlib.Omega.{arith}
-use native.Mathlib.Decide.{decLt, ℕ-discrete}
+use native.Mathlib.Decide.{decLt}
 use native.Mathlib.Numerals.{add-one}
 use native.Mathlib.Nat.{add-zero, mul-le-mul-left, sub-zero, zero-sub, suc-sub-suc, zero-add, zero-mul, mul-one, mul-comm}
 use lib.ListN.{length, getD, set, take, drop, length-append, length-drop, take-append-drop}
-use lib.Seq.{length-take-le, take-all, take-nil, take-at, drop-at, drop-cons, take-append-le, drop-append-le, getD-take, getD-drop, take-take, drop-drop, take-add, set-split, getD-set-same, getD-set-other, drop-set-add, take-set-lt, set-at}
-use mathlib.Core.Logic.{_≢_}
-use lib.Dec.{eqb, ltb}
-use borrow.Author.Tests.{eq-eqb, ne-eqb, lt-ltb, le-ltb}
+use lib.Seq.{length-take-le, take-all, take-nil, take-at, drop-at, drop-cons, take-append-le, drop-append-le, getD-take, getD-drop, take-take, drop-drop, take-add, set-split, drop-set-add, take-set-lt, set-at}
 use Rattle.model.specs.Bounded.{join-below, list-below}
 use Rattle.model.specs.Record.{part}
-
--- f, but v at c
-unfoldable pub changed {ℓ} : {A : Type ℓ} → (ℕ → A) → ℕ → A → ℕ → A
-changed f c v i = cond (eqb i c) v (f i)
-
--- f below n, and g from n on
-unfoldable pub upto {ℓ} : {A : Type ℓ} → ℕ → (ℕ → A) → (ℕ → A) → ℕ → A
-upto n f g i = cond (ltb i n) (f i) (g i)
-
--- at c it is v, and elsewhere f
-pub changed-same {ℓ} : {A : Type ℓ} (f : ℕ → A) (c : ℕ) (v : A) → changed f c v c ≡ v
-unfolding changed
-changed-same f c v = rw (eq-eqb c c refl)
-
-pub changed-other {ℓ} : {A : Type ℓ} (f : ℕ → A) (c i : ℕ) (v : A) → i ≢ c → changed f c v i ≡ f i
-unfolding changed
-changed-other f c i v h = rw (ne-eqb i c h)
-
--- a loop over the places: none done, one more, all done
-module _ {ℓ} {A : Type ℓ} (f g : ℕ → A) where
-  pub upto-none : (i : ℕ) → upto 0 f g i ≡ g i
-  unfolding upto
-  upto-none i = rw (le-ltb i 0 (omega arith))
-
-  pub upto-step : (n i : ℕ) → changed (upto n f g) n (f n) i ≡ upto (suc n) f g i
-  unfolding upto
-  upto-step n i = elim (ℕ-discrete i n) [
-    | yes e ↦ rw (e, changed-same (upto n f g) n (f n), lt-ltb n (suc n) (omega arith))
-    | no ne ↦ rw (changed-other (upto n f g) n i (f n) ne) (elim (decLt i n) [
-      | yes p ↦ rw (lt-ltb i n p, lt-ltb i (suc n) (omega arith))
-      | no p ↦ rw (le-ltb i n (omega arith), le-ltb i (suc n) (omega arith))
-    ])
-  ]
-
-  pub upto-all : (n i : ℕ) → i < n → upto n f g i ≡ f i
-  unfolding upto
-  upto-all n i h = rw (lt-ltb i n h)
 
 module _ {ℓ} {A : Type ℓ} where
   -- r with its n elements from `at` on replaced by v: how a lent part comes back
@@ -184,6 +143,11 @@ module _ {ℓ} {A : Type ℓ} where
     pub getD-splice-above : (i : ℕ) (d : A) → at + n ≤ i → getD (splice r at n v) i d ≡ getD r i d
     getD-splice-above i d h = rw (getD-one (splice r at n v) i d, getD-one r i d, part-splice-above i 1 h)
 
+  -- a part replaced by itself
+  pub splice-same : (r : List A) (at n : ℕ) → splice r at n (part r at n) ≡ r
+  unfolding splice part
+  splice-same r at n = ap (λ (l : List A). take at r ++ l) (take-append-drop n (drop at r)) ∙ take-append-drop at r
+
   -- a store is a part of one element, replaced
   pub set-splice : (r : List A) (i : ℕ) (v : A) → i < length r → set r i v ≡ splice r i 1 (v ∷ [])
   unfolding splice
@@ -212,95 +176,10 @@ module _ {ℓ} {A : Type ℓ} where
   pub listed : (l : List A) (d : A) → list-below (length l) (λ i. getD l i d) ≡ l
   listed l d = (simp zero-add at (list-parts l 0 (length l) d (omega arith))) ∙ part-all l (length l) (omega arith)
 
-  -- ---- tables in the middle of a list
-
-  -- element c of a part that is a list
-  pub byte-of : (r : List A) (at n : ℕ) (f : ℕ → A) (c : ℕ) (d : A) → part r at n ≡ list-below n f → c < n → getD r (at + c) d ≡ f c
-  byte-of r at n f c d h q = sym (getD-part r at n c d q) ∙ ap (λ l. getD l c d) h ∙ getD-list f n c d q
-
-  -- piece c of a part that is a table
-  pub piece-of : (r : List A) (at k n : ℕ) (f : ℕ → List A) (c : ℕ) → part r at (n * k) ≡ join-below n f → ((i : ℕ) → i < n → length (f i) ≡ k) → c < n
-      → part r (at + k * c) k ≡ f c
-  piece-of r at k n f c h l q =
-      sym (part-part r at (n * k) (k * c) k (omega (arith, mul-le-mul-left k q))) ∙ ap (λ l. part l (k * c) k) h ∙ part-join f k n c l q
-
-  -- a list of n pieces of k elements, known piece by piece
-  pub table-is : (r : List A) (k n : ℕ) (f : ℕ → List A) → length r ≡ n * k → ((i : ℕ) → i < n → part r (k * i) k ≡ f i) → r ≡ join-below n f
-  table-is r k n f l h = sym (part-all r (n * k) (omega arith)) ∙ sym (join-parts r 0 k n) ∙ join-cong (λ i. part r (0 + k * i) k) f n (λ i q. rw zero-add (h i q))
-
-  -- the first m of n pieces
-  pub part-join-front : (f : ℕ → List A) (k n m : ℕ) → ((i : ℕ) → i < n → length (f i) ≡ k) → m ≤ n → part (join-below n f) 0 (m * k) ≡ join-below m f
-  part-join-front f k n m l h =
-      sym (join-parts (join-below n f) 0 k m) ∙ join-cong (λ i. part (join-below n f) (0 + k * i) k) f m (λ i q. rw zero-add (part-join f k n i l (omega arith)))
-
-  -- ---- five lists, one after the other, and cut apart again
-
-  pub record Cut (r a b c d e : List A) (p q s t u : ℕ) : Type ℓ where
-    pub length-is : length r ≡ p + q + s + t + u
-    pub a-is : part r 0 p ≡ a
-    pub b-is : part r p q ≡ b
-    pub c-is : part r (p + q) s ≡ c
-    pub d-is : part r (p + q + s) t ≡ d
-    pub e-is : part r (p + q + s + t) u ≡ e
-
-  -- from five lists to their parts
-  pub cut : (a b c d e : List A) (p q s t u : ℕ) → length a ≡ p → length b ≡ q → length c ≡ s → length d ≡ t → length e ≡ u
-      → Cut (a ++ b ++ c ++ d ++ e) a b c d e p q s t u
-  cut a b c d e p q s t u la lb lc ld le =
-      let r : List A = a ++ b ++ c ++ d ++ e in
-      let ga : r ≡ [] ++ (a ++ (b ++ c ++ d ++ e)) = simp append-assoc in
-      let gb : r ≡ a ++ (b ++ (c ++ d ++ e)) = simp append-assoc in
-      let gc : r ≡ (a ++ b) ++ (c ++ (d ++ e)) = simp append-assoc in
-      let gd : r ≡ (a ++ b ++ c) ++ (d ++ e) = simp append-assoc in
-      record {
-        length-is = simp length-append (omega arith);
-        a-is = rw ga (part-at [] a (b ++ c ++ d ++ e) 0 p refl la);
-        b-is = rw gb (part-at a b (c ++ d ++ e) p q la lb);
-        c-is = rw gc (part-at (a ++ b) c (d ++ e) (p + q) s (simp length-append (omega arith)) lc);
-        d-is = rw gd (part-at (a ++ b ++ c) d e (p + q + s) t (simp length-append (omega arith)) ld);
-        e-is = part-end (a ++ b ++ c ++ d) e (p + q + s + t) u (simp length-append (omega arith)) le;
-      }
-
   -- a part in two
   pub part-add : (r : List A) (at n m : ℕ) → part r at (n + m) ≡ part r at n ++ part r (at + n) m
   unfolding part
   part-add r at n m = rw (take-add n m (drop at r), drop-drop n at r)
-
-  -- and back
-  pub uncut : (r a b c d e : List A) (p q s t u : ℕ) → Cut r a b c d e p q s t u → r ≡ a ++ b ++ c ++ d ++ e
-  uncut r a b c d e p q s t u x =
-      sym (part-all r (p + q + s + t + u) (omega arith)) ∙ simp (part-add, zero-add, x .a-is, x .b-is, x .c-is, x .d-is, x .e-is)
-
-  -- one piece of a table replaced
-  pub piece-splice : (r : List A) (at k n : ℕ) (f : ℕ → List A) (c : ℕ) (v : List A) → at + k * n ≤ length r → length v ≡ k → c < n
-      → ((i : ℕ) → i < n → part r (at + k * i) k ≡ f i) → (i : ℕ) → i < n → part (splice r (at + k * c) k v) (at + k * i) k ≡ changed f c v i
-  piece-splice r at k n f c v l lv q h i p =
-      let fits : at + k * c + k ≤ length r = omega (arith, mul-le-mul-left k q) in
-      elim (ℕ-discrete i c) [
-        | yes e ↦ rw (e, changed-same f c v) (part-splice r (at + k * c) k v fits lv)
-        | no ne ↦ rw (changed-other f c i v ne) (elim (decLt i c) [
-          | yes lt ↦ part-splice-below r (at + k * c) k v fits lv (at + k * i) k (omega (arith, mul-le-mul-left k lt)) ∙ h i p
-          | no ge ↦ let gt : c < i = omega arith in part-splice-above r (at + k * c) k v fits lv (at + k * i) k (omega (arith, mul-le-mul-left k gt)) ∙ h i p
-        ])
-      ]
-
-  -- one piece of a table replaced
-  pub splice-join : (f : ℕ → List A) (k n c : ℕ) (v : List A) → ((i : ℕ) → i < n → length (f i) ≡ k) → length v ≡ k → c < n
-      → splice (join-below n f) (k * c) k v ≡ join-below n (changed f c v)
-  splice-join f k n c v l lv q =
-      let size : length (join-below n f) ≡ n * k = length-join f k n l in
-      table-is (splice (join-below n f) (k * c) k v) k n (changed f c v)
-      (length-splice (join-below n f) (k * c) k v (omega (arith, mul-le-mul-left k q)) lv ∙ size)
-      (λ i p. simp zero-add at (piece-splice (join-below n f) 0 k n f c v (omega arith) lv q (λ j h. rw zero-add (part-join f k n j l h)) i p))
-
-  -- one byte of a table stored
-  pub byte-set : (r : List A) (at n : ℕ) (f : ℕ → A) (c : ℕ) (v d : A) → at + n ≤ length r → c < n
-      → ((i : ℕ) → i < n → getD r (at + i) d ≡ f i) → (i : ℕ) → i < n → getD (set r (at + c) v) (at + i) d ≡ changed f c v i
-  byte-set r at n f c v d l q h i p =
-      elim (ℕ-discrete i c) [
-        | yes e ↦ rw (e, changed-same f c v) (getD-set-same r (at + c) v d (omega arith))
-        | no ne ↦ rw (changed-other f c i v ne) (getD-set-other r (at + c) (at + i) v d (omega arith) ∙ h i p)
-      ]
 
   -- a store outside a part
   pub part-set-below : (r : List A) (i : ℕ) (v : A) (at n : ℕ) → at + n ≤ i → i < length r → part (set r i v) at n ≡ part r at n

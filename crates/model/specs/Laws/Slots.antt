@@ -9,11 +9,13 @@ use native.Mathlib.Nat.{zero-add, add-zero, add-comm, zero-mul}
 use native.Mathlib.Decide.{decLt, ℕ-discrete}
 use lib.Dec.{leb, ltb}
 use borrow.Author.Tests.{lt-ltb, le-ltb, le-leb, lt-leb}
-use lib.ListN.{length, getD, set, take, drop, replicate, length-append, length-replicate, replicate-append-replicate, List·getD-eq-default, List·getD-append}
-use lib.Seq.{getD-append-seam, getD-set-same, getD-set-other, length-take-le, take-all, take-at, getD-take, getD-drop, getD-append-add, take-append-add}
+use lib.ListN.{length, getD, take, drop, replicate, length-append, length-replicate, replicate-append-replicate, List·getD-eq-default, List·getD-append}
+use lib.Seq.{getD-append-seam, length-take-le, take-all, take-at, getD-take, getD-drop, getD-append-add, take-append-add}
 use Rattle.model.specs.Bounded.{join-below}
 use Rattle.model.specs.Record.{part, padded, slot, slots}
-use Rattle.model.specs.Laws.Parts.{changed, splice, splice-join, join-cong, part-part, part-left, part-join, length-join, table-is, changed-same, changed-other}
+use Rattle.model.specs.Laws.Changed.{changed, changed-same, changed-other}
+use Rattle.model.specs.Laws.Parts.{splice, join-cong, part-part, part-left, part-join, length-join}
+use Rattle.model.specs.Laws.Tables.{splice-join, table-is}
 
 -- ---- padded
 
@@ -211,15 +213,6 @@ pub slots-splice : (n k : ℕ) (ps qs : List (List ℕ)) (i : ℕ) (x : List ℕ
     → splice (slots n k ps) (k * i) k x ≡ slots n k qs
 unfolding slots
 slots-splice n k ps qs i x q l h = splice-join (slot k ps) k n i x (λ j p. length-slot k ps j) l q ∙ join-cong (changed (slot k ps) i x) (slot k qs) n h
-
--- piece i replaced
-pub slots-set : (n k : ℕ) (ps : List (List ℕ)) (i : ℕ) (x : List ℕ) → i < n → i < length ps → length x ≡ k
-    → splice (slots n k ps) (k * i) k x ≡ slots n k (set ps i x)
-unfolding slot
-slots-set n k ps i x q h l = slots-splice n k ps (set ps i x) i x q l (λ j p. elim (ℕ-discrete j i) [
-  | yes e ↦ rw (e, changed-same (slot k ps) i x, getD-set-same ps i x [] h) (sym (padded-full k x l))
-  | no ne ↦ rw (changed-other (slot k ps) i j x ne, getD-set-other ps i j x [] ne)
-])
 
 -- one more piece, in the first free place
 pub slots-push : (n k : ℕ) (ps : List (List ℕ)) (x : List ℕ) → length ps < n → length x ≡ k

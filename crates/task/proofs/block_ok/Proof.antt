@@ -3,7 +3,7 @@ use borrow.Author.Needs.{needs}
 use borrow.Author.Tests.{lt-ltb, le-ltb, le-leb, lt-leb}
 use Rattle.model.specs.Tasks.{block-ok}
 use Rattle.model.specs.Laws.Columns.{height-pos}
-use Rattle.task.specs.Laws.{known}
+use Rattle.model.specs.Laws.Kinds.{known}
 use Rattle.task.proofs.block_ok.Statement.{statement}
 use Rattle.task.proofs.block_ok.Tie as tie
 

@@ -1,6 +1,6 @@
 -- `task::follows`: each test is one of the model's, by the laws `follows-..`. Assumes nothing.
 use borrow.Author.Needs.{needs}
-use Rattle.task.specs.Laws.{follows-later, follows-earlier, follows-other, follows-above}
+use Rattle.task.specs.Laws.Blocks.{follows-later, follows-earlier, follows-other, follows-above}
 use Rattle.task.proofs.follows.Statement.{statement}
 use Rattle.task.proofs.follows.Tie as tie
 

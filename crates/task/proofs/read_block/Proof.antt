@@ -2,7 +2,7 @@
 use borrow.Author.Needs.{needs}
 use mathlib.Core.Path.{ap, _∙_}
 use Rattle.model.specs.Tasks.{lifted, block}
-use Rattle.task.specs.Laws.{kind-known, kind-unknown}
+use Rattle.model.specs.Laws.Kinds.{kind-known, kind-unknown}
 use Rattle.task.proofs.read_block.Statement.{statement}
 use Rattle.task.proofs.read_block.Tie as tie
 
@@ -34,20 +34,20 @@ shared-slice-read-wide c = search needs
 wide-requires : tie.Need-wide-requires
 wide-requires c κs = search needs
 
-add-word-at : tie.Need-add-word-at
-add-word-at c = search needs
+add-get16 : tie.Need-add-get16
+add-get16 c = search needs
 
-word-at-requires : tie.Need-word-at-requires
-word-at-requires c κs = search needs
+get16-requires : tie.Need-get16-requires
+get16-requires c κs = search needs
 
 lift-requires : tie.Need-lift-requires
 lift-requires c κs = search needs
 
-add-word-at-2 : tie.Need-add-word-at-2
-add-word-at-2 c = search needs
+add-get16-2 : tie.Need-add-get16-2
+add-get16-2 c = search needs
 
-word-at-requires-2 : tie.Need-word-at-requires-2
-word-at-requires-2 c κs = search needs
+get16-requires-2 : tie.Need-get16-requires-2
+get16-requires-2 c κs = search needs
 
 lift-requires-2 : tie.Need-lift-requires-2
 lift-requires-2 c κs = search needs
@@ -56,10 +56,10 @@ returns-2 : tie.Need-returns-2
 unfolding block
 returns-2 c = let k = c .before .before .before .before .before .before .before in
     record {
-      column = c .before .before .before .before .wide .ensures .0;
+      column = c .before .before .before .before .wide .ensures .is;
       kind = kind-known _ _ _ (k .before .before .of-byte .ensures) (k .kind .given .1);
-      low = c .before .before .lift .ensures ∙ ap lifted (c .before .before .before .word-at .ensures .0);
-      high = c .lift2 .ensures ∙ ap lifted (c .before .word-at2 .ensures .0);
+      low = c .before .before .lift .ensures ∙ ap lifted (c .before .before .before .get16 .ensures .is);
+      high = c .lift2 .ensures ∙ ap lifted (c .before .get162 .ensures .is);
     }
 
 pub read-block-spec : {M : Type 1} → statement M
@@ -75,10 +75,10 @@ read-block-spec =
     returns
     shared-slice-read-wide
     wide-requires
-    add-word-at
-    word-at-requires
+    add-get16
+    get16-requires
     lift-requires
-    add-word-at-2
-    word-at-requires-2
+    add-get16-2
+    get16-requires-2
     lift-requires-2
     returns-2)

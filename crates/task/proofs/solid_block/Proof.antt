@@ -1,7 +1,7 @@
 -- `task::solid_block`: what is read is tested, by `tested`. Assumes nothing.
 use borrow.Author.Needs.{needs}
 use mathlib.Core.Path.{_∙_}
-use Rattle.task.specs.Laws.{bad-block, tested}
+use Rattle.task.specs.Laws.Blocks.{bad-block, tested}
 use Rattle.task.proofs.solid_block.Statement.{statement}
 use Rattle.task.proofs.solid_block.Tie as tie
 

@@ -1,6 +1,6 @@
 -- `task::starts_at_zero`: by `starts-not` and `starts-low`. Assumes nothing.
 use borrow.Author.Needs.{needs}
-use Rattle.task.specs.Laws.{starts-not, starts-low}
+use Rattle.task.specs.Laws.Blocks.{starts-not, starts-low}
 use Rattle.task.proofs.starts_at_zero.Statement.{statement}
 use Rattle.task.proofs.starts_at_zero.Tie as tie
 

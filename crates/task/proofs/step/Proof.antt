@@ -6,7 +6,7 @@ use mathlib.Core.Logic.{⊎-elim}
 use native.Mathlib.Omega.{arith}
 use borrow.Author.Tests.{not-true, not-false}
 use Rattle.model.specs.Tasks.{blocks, block}
-use Rattle.task.specs.Laws.{Met, met-none, met-logic, met-other, step-2, step-5, step-10}
+use Rattle.task.specs.Laws.Steps.{Met, met-none, met-logic, met-other, step-2, step-5, step-10}
 use Rattle.task.proofs.step.Statement.{statement}
 use Rattle.task.proofs.step.Tie as tie
 

@@ -5,7 +5,7 @@ use mathlib.Core.Path.{sym, _∙_}
 use native.Mathlib.Omega.{arith}
 use borrow.Author.Tests.{not-true, not-false}
 use Rattle.model.specs.Tasks.{blocks}
-use Rattle.task.specs.Laws.{Tested, ill-start, ill-block, ill-pair, no-blocks, tested-first, tested-next, all-tested}
+use Rattle.task.specs.Laws.Tasks.{Tested, ill-start, ill-block, ill-pair, no-blocks, tested-first, tested-next, all-tested}
 use Rattle.task.proofs.well_formed.Statement.{statement}
 use Rattle.task.proofs.well_formed.Tie as tie
 

@@ -1,5 +1,5 @@
 -- `Kind::of_byte`: each kind number is its kind, and no other byte is one. Assumes nothing.
-use borrow.Author.Tests.{eq-eqb, ne-eqb}
+use borrow.Author.Tests.{ne-eqb}
 use Rattle.model.proofs.Kind.of_byte.Statement.{statement}
 use Rattle.model.proofs.Kind.of_byte.Tie as tie
 

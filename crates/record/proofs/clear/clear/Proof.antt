@@ -6,14 +6,9 @@ use native.Mathlib.Numerals.{add-one}
 use borrow.Author.Needs.{needs}
 use lib.ListN.{length}
 use Rattle.model.specs.Columns.{columns, kind}
-use Rattle.record.specs.Clear.{Opened, opened-none, opened-closed, opened-more, opened-all, bounds}
+use Rattle.record.specs.Laws.Clear.{Opened, opened-none, opened-closed, opened-more, opened-all, bounds}
 use Rattle.record.proofs.clear.clear.Statement.{statement}
 use Rattle.record.proofs.clear.clear.Tie as tie
-use Rattle.record.proofs.clear.clear.Reads as reads
-use Rattle.record.proofs.clear.clear.Lts as lts
-use Rattle.record.proofs.clear.open_column.Reads as open-column-reads
-use Rattle.words.proofs.put16.Reads as put16-reads
-use Rattle.words.proofs.wipe.Reads as wipe-reads
 
 abbrev Inv-loop : tie.InvT-loop
 Inv-loop record₀ rows kinds c₀ «record» c = (c ≤ length kinds) × Opened (record { rows = rows; kinds = kinds }) c «record»

@@ -6,12 +6,9 @@ use lib.ListN.{length}
 use Rattle.model.specs.Record.{bytes16}
 use Rattle.model.specs.Laws.Parts.{splice}
 use Rattle.model.specs.Laws.Record.{length-column}
-use Rattle.record.specs.Clear.{part-one}
+use Rattle.record.specs.Laws.Clear.{part-one}
 use Rattle.record.proofs.clear.free_part.Statement.{statement}
 use Rattle.record.proofs.clear.free_part.Tie as tie
-use Rattle.record.proofs.clear.free_part.Reads as reads
-use Rattle.record.proofs.clear.free_part.Lts as lts
-use Rattle.words.proofs.put16.Reads as put16-reads
 
 put16-requires : tie.Need-put16-requires
 put16-requires c κs = let l = ap length (c .before .before .pre .0) ∙ length-column _ in omega arith

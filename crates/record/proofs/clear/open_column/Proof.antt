@@ -5,14 +5,11 @@ use native.Mathlib.Omega.{arith}
 use borrow.Author.Needs.{needs}
 use lib.ListN.{length-set}
 use Rattle.model.specs.Record.{part}
+use Rattle.model.specs.Laws.Columns.{top-in-le}
 use Rattle.model.specs.Laws.Parts.{splice}
-use Rattle.record.specs.Clear.{closed-kind, open-none, open-one, top-in-le}
+use Rattle.record.specs.Laws.Clear.{closed-kind, open-none, open-one}
 use Rattle.record.proofs.clear.open_column.Statement.{statement}
 use Rattle.record.proofs.clear.open_column.Tie as tie
-use Rattle.record.proofs.clear.open_column.Reads as reads
-use Rattle.record.proofs.clear.open_column.Lts as lts
-use Rattle.record.proofs.clear.free_part.Reads as free-part-reads
-use Rattle.record.proofs.clear.top_of.Reads as top-of-reads
 
 add-record : tie.Need-add-record
 add-record c = search needs

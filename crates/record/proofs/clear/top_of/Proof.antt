@@ -3,13 +3,9 @@ use mathlib.Core.Path.{ap, _∙_}
 use native.Mathlib.Omega.{arith}
 use borrow.Author.Needs.{needs}
 use Rattle.model.specs.Columns.{top-in}
-use Rattle.task.specs.Laws.{kind-known, kind-unknown}
+use Rattle.model.specs.Laws.Kinds.{kind-known, kind-unknown}
 use Rattle.record.proofs.clear.top_of.Statement.{statement}
 use Rattle.record.proofs.clear.top_of.Tie as tie
-use Rattle.record.proofs.clear.top_of.Reads as reads
-use Rattle.record.proofs.clear.top_of.Lts as lts
-use Rattle.model.proofs.Kind.of_byte.Reads as of-byte-reads
-use Rattle.model.proofs.Kind.top.Reads as top-reads
 
 of-byte-requires : tie.Need-of-byte-requires
 of-byte-requires c κs = search needs

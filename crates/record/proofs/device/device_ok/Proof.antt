@@ -2,12 +2,9 @@
 use mathlib.Core.Path.{_∙_}
 use borrow.Author.Needs.{needs}
 use native.Mathlib.Omega.{arith}
-use Rattle.record.specs.Device.{no-rows, many-rows, no-columns, many-columns, by-kinds}
+use Rattle.record.specs.Laws.Device.{no-rows, many-rows, no-columns, many-columns, by-kinds}
 use Rattle.record.proofs.device.device_ok.Statement.{statement}
 use Rattle.record.proofs.device.device_ok.Tie as tie
-use Rattle.record.proofs.device.device_ok.Reads as reads
-use Rattle.record.proofs.device.device_ok.Lts as lts
-use Rattle.record.proofs.device.kinds_ok.Reads as kinds-ok-reads
 
 returns : tie.Need-returns
 returns c = no-rows _ (c .if1 .taken)

@@ -4,11 +4,9 @@ use mathlib.Core.Path.{_≡_}
 use native.Mathlib.Omega.{arith}
 use borrow.Author.Count.{below-none, below-more}
 use lib.ListN.{length}
-use Rattle.record.specs.Device.{Kinds, kinds-all, kinds-bad}
+use Rattle.record.specs.Laws.Device.{Kinds, kinds-all, kinds-bad}
 use Rattle.record.proofs.device.kinds_ok.Statement.{statement}
 use Rattle.record.proofs.device.kinds_ok.Tie as tie
-use Rattle.record.proofs.device.kinds_ok.Reads as reads
-use Rattle.record.proofs.device.kinds_ok.Lts as lts
 
 abbrev Inv-loop : tie.InvT-loop
 Inv-loop kinds i₀ i = (i ≤ length kinds) × Kinds kinds i

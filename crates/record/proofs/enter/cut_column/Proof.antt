@@ -8,9 +8,6 @@ use Rattle.model.specs.Laws.Parts.{splice}
 use Rattle.model.specs.Laws.Record.{put-column}
 use Rattle.record.proofs.enter.cut_column.Statement.{statement}
 use Rattle.record.proofs.enter.cut_column.Tie as tie
-use Rattle.record.proofs.enter.cut_column.Reads as reads
-use Rattle.record.proofs.enter.cut_column.Lts as lts
-use Rattle.column.proofs.cut.Reads as cut-reads
 
 add-count : tie.Need-add-count
 add-count c = search needs

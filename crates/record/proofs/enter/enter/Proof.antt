@@ -1,13 +1,8 @@
 -- `record::enter::enter`: the entry's place, the blocks, the entry (`entered-record`). Assumes nothing.
 use borrow.Author.Needs.{needs}
-use Rattle.record.specs.Enter.{entry-room, entry-small, entered-record}
+use Rattle.record.specs.Laws.Enter.{entry-room, entry-small, entered-record}
 use Rattle.record.proofs.enter.enter.Statement.{statement}
 use Rattle.record.proofs.enter.enter.Tie as tie
-use Rattle.record.proofs.enter.enter.Reads as reads
-use Rattle.record.proofs.enter.enter.Lts as lts
-use Rattle.record.proofs.enter.take_blocks.Reads as take-blocks-reads
-use Rattle.record.proofs.entries.insert_entry.Reads as insert-entry-reads
-use Rattle.record.proofs.entries.place_of.Reads as place-of-reads
 
 place-of-requires : tie.Need-place-of-requires
 place-of-requires c κs = search needs

@@ -7,13 +7,11 @@ use Rattle.model.specs.Tasks.{blocks}
 use Rattle.model.specs.Book.{placed}
 use Rattle.model.specs.Record.{device-of, book-of}
 use Rattle.model.specs.Laws.Sound.{sound-length}
-use Rattle.record.specs.Enter.{taken, taken-none, taken-length, block-stands, block-room, block-taken}
+use Rattle.record.specs.Enter.{taken}
+use Rattle.record.specs.Laws.Cut.{taken-none, taken-length}
+use Rattle.record.specs.Laws.Enter.{block-stands, cut-room, block-taken}
 use Rattle.record.proofs.enter.take_blocks.Statement.{statement}
 use Rattle.record.proofs.enter.take_blocks.Tie as tie
-use Rattle.record.proofs.enter.take_blocks.Reads as reads
-use Rattle.record.proofs.enter.take_blocks.Lts as lts
-use Rattle.record.proofs.enter.cut_column.Reads as cut-column-reads
-use Rattle.task.proofs.block_at.Reads as block-at-reads
 
 abbrev Inv-loop : tie.InvT-loop
 Inv-loop record₀ task column bottom count i₀ «record» i = (i ≤ blocks task) × («record» ≡ taken (device-of record₀) (book-of record₀) (placed task column bottom) i)
@@ -55,7 +53,7 @@ sub-cut-column-2 c = let x = block-stands _ _ _ _ (c .before .before .before .be
 
 cut-column-requires : tie.Need-cut-column-requires Inv-loop μ-loop
 unfolding blocks
-cut-column-requires c κs = block-room _ _ _ _ (c .before .before .before .before .before .before .before .before .before .pre) _ _ (c .before .before .before .before .before .before .loop .inv .1) (c .before .before .before .before .before .loop-test .taken) _ (c .before .before .before .before .block-at .ensures)
+cut-column-requires c κs = cut-room _ _ _ _ (c .before .before .before .before .before .before .before .before .before .pre) _ _ (c .before .before .before .before .before .before .loop .inv .1) (c .before .before .before .before .before .loop-test .taken) _ (c .before .before .before .before .block-at .ensures)
 
 add-i : tie.Need-add-i Inv-loop μ-loop
 unfolding blocks

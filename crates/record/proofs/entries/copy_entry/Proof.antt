@@ -9,8 +9,6 @@ use Rattle.model.specs.Record.{part, entry-at}
 use Rattle.model.specs.Laws.Parts.{splice, splice-none, splice-copy}
 use Rattle.record.proofs.entries.copy_entry.Statement.{statement}
 use Rattle.record.proofs.entries.copy_entry.Tie as tie
-use Rattle.record.proofs.entries.copy_entry.Reads as reads
-use Rattle.record.proofs.entries.copy_entry.Lts as lts
 
 abbrev Inv-loop : tie.InvT-loop
 Inv-loop record₀ from to a b i₀ «record» i = (i ≤ entry-size) × (length «record» ≡ record-size) × («record» ≡ splice record₀ b i (part record₀ a i))

@@ -6,13 +6,9 @@ use borrow.Author.Count.{below-none, below-more}
 use Rattle.model.specs.Tasks.{word}
 use Rattle.model.specs.Record.{entry-at}
 use Rattle.model.specs.Laws.Clauses.{clauses-to}
-use Rattle.record.specs.Entries.{found-at, found-none}
+use Rattle.record.specs.Laws.Entries.{found-at, found-none}
 use Rattle.record.proofs.entries.find.Statement.{statement}
 use Rattle.record.proofs.entries.find.Tie as tie
-use Rattle.record.proofs.entries.find.Reads as reads
-use Rattle.record.proofs.entries.find.Lts as lts
-use Rattle.record.proofs.entries.number_at.Reads as number-at-reads
-use Rattle.record.proofs.entries.running.Reads as running-reads
 
 abbrev Inv-loop : tie.InvT-loop
 Inv-loop «record» number n j₀ j = (j ≤ n) × ((i : ℕ) → i < j → word «record» (entry-at i) ≡ number → ⊥)

@@ -7,13 +7,9 @@ use borrow.Rule.Slice.PartMut.{mid-len}
 use lib.ListN.{length-set}
 use Rattle.model.specs.Record.{entry-at}
 use Rattle.model.specs.Laws.Parts.{splice}
-use Rattle.record.specs.Entries.{entered-by}
+use Rattle.record.specs.Laws.Moved.{entered-by}
 use Rattle.record.proofs.entries.insert_entry.Statement.{statement}
 use Rattle.record.proofs.entries.insert_entry.Tie as tie
-use Rattle.record.proofs.entries.insert_entry.Reads as reads
-use Rattle.record.proofs.entries.insert_entry.Lts as lts
-use Rattle.record.proofs.entries.raise_entries.Reads as raise-entries-reads
-use Rattle.record.proofs.entries.write_entry.Reads as write-entry-reads
 
 slice-read-n : tie.Need-slice-read-n
 slice-read-n c = search needs

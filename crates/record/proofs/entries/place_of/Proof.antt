@@ -7,13 +7,9 @@ use Rattle.model.specs.Limits.{running-at}
 use Rattle.model.specs.Tasks.{word}
 use Rattle.model.specs.Record.{entry-at}
 use Rattle.model.specs.Laws.Clauses.{clauses-to}
-use Rattle.record.specs.Entries.{place-said, higher-more}
+use Rattle.record.specs.Laws.Entries.{place-said, higher-more}
 use Rattle.record.proofs.entries.place_of.Statement.{statement}
 use Rattle.record.proofs.entries.place_of.Tie as tie
-use Rattle.record.proofs.entries.place_of.Reads as reads
-use Rattle.record.proofs.entries.place_of.Lts as lts
-use Rattle.record.proofs.entries.number_at.Reads as number-at-reads
-use Rattle.record.proofs.entries.running.Reads as running-reads
 
 abbrev Inv-loop : tie.InvT-loop
 Inv-loop «record» number k₀ k = (k ≤ getD «record» running-at 0) × ((j : ℕ) → k ≤ j → j < getD «record» running-at 0 → number < word «record» (entry-at j))

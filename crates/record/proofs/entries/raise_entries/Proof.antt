@@ -6,12 +6,10 @@ use borrow.Author.Needs.{needs}
 use lib.ListN.{length}
 use Rattle.model.specs.Limits.{record-size}
 use Rattle.model.specs.Laws.Slots.{raised}
-use Rattle.record.specs.Entries.{Moved, raised-none, raised-more}
+use Rattle.record.specs.Entries.{Moved}
+use Rattle.record.specs.Laws.Moved.{raised-none, raised-more}
 use Rattle.record.proofs.entries.raise_entries.Statement.{statement}
 use Rattle.record.proofs.entries.raise_entries.Tie as tie
-use Rattle.record.proofs.entries.raise_entries.Reads as reads
-use Rattle.record.proofs.entries.raise_entries.Lts as lts
-use Rattle.record.proofs.entries.copy_entry.Reads as copy-entry-reads
 
 abbrev Inv-loop : tie.InvT-loop
 Inv-loop record₀ k n j₀ «record» j = (k ≤ j) × (j ≤ n) × (length «record» ≡ record-size) × Moved record₀ «record» (raised j n)

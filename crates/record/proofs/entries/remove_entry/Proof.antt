@@ -8,13 +8,9 @@ use lib.ListN.{getD, take, drop, length-set}
 use Rattle.model.specs.Limits.{running-at}
 use Rattle.model.specs.Record.{entry-at}
 use Rattle.model.specs.Laws.Parts.{splice}
-use Rattle.record.specs.Entries.{removed-by}
+use Rattle.record.specs.Laws.Moved.{removed-by}
 use Rattle.record.proofs.entries.remove_entry.Statement.{statement}
 use Rattle.record.proofs.entries.remove_entry.Tie as tie
-use Rattle.record.proofs.entries.remove_entry.Reads as reads
-use Rattle.record.proofs.entries.remove_entry.Lts as lts
-use Rattle.record.proofs.entries.lower_entries.Reads as lower-entries-reads
-use Rattle.words.proofs.wipe.Reads as wipe-reads
 
 slice-read-last : tie.Need-slice-read-last
 slice-read-last c = search needs

@@ -4,8 +4,6 @@ use borrow.Author.Needs.{needs}
 use Rattle.model.specs.Limits.{running-at}
 use Rattle.record.proofs.entries.running.Statement.{statement}
 use Rattle.record.proofs.entries.running.Tie as tie
-use Rattle.record.proofs.entries.running.Reads as reads
-use Rattle.record.proofs.entries.running.Lts as lts
 
 shared-slice-read-result : tie.Need-shared-slice-read-result
 shared-slice-read-result c = search needs

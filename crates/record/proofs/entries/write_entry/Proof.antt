@@ -7,14 +7,9 @@ use lib.ListN.{length, length-set}
 use Rattle.model.specs.Tasks.{blocks}
 use Rattle.model.specs.Laws.Parts.{splice}
 use Rattle.model.specs.Laws.Tasks.{sized-to}
-use Rattle.record.specs.Entries.{entry-written}
+use Rattle.record.specs.Laws.Moved.{entry-written}
 use Rattle.record.proofs.entries.write_entry.Statement.{statement}
 use Rattle.record.proofs.entries.write_entry.Tie as tie
-use Rattle.record.proofs.entries.write_entry.Reads as reads
-use Rattle.record.proofs.entries.write_entry.Lts as lts
-use Rattle.words.proofs.copy.Reads as copy-reads
-use Rattle.words.proofs.put16.Reads as put16-reads
-use Rattle.words.proofs.wipe.Reads as wipe-reads
 
 wipe-requires : tie.Need-wipe-requires
 wipe-requires c κs = search needs

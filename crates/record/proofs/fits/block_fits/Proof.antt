@@ -5,7 +5,7 @@ use native.Mathlib.Omega.{arith}
 use borrow.Author.Needs.{needs}
 use Rattle.model.specs.Laws.Columns.{height-two}
 use Rattle.model.specs.Laws.Sound.{sound-length}
-use Rattle.record.specs.FitsLaws.{few-columns, sound-listed, refused-column, refused-kind, refused-below, refused-grid, held-block}
+use Rattle.record.specs.Laws.Fits.{few-columns, sound-listed, refused-column, refused-kind, refused-below, refused-grid, held-block}
 use Rattle.record.proofs.fits.block_fits.Statement.{statement}
 use Rattle.record.proofs.fits.block_fits.Tie as tie
 

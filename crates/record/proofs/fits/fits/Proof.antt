@@ -6,8 +6,8 @@ use borrow.Author.Tests.{not-true, not-false}
 use Rattle.model.specs.Tasks.{blocks}
 use Rattle.model.specs.Laws.Sound.{sound-length}
 use Rattle.model.specs.Laws.Tasks.{solid-block}
-use Rattle.task.specs.Laws.{same-seen}
-use Rattle.record.specs.FitsLaws.{off-column, off-bottom, movable, Fit, fit-none, fit-next, fit-all, misfit}
+use Rattle.task.specs.Laws.Blocks.{same-seen}
+use Rattle.record.specs.Laws.Fits.{off-column, off-bottom, movable, Fit, fit-none, fit-next, fit-all, misfit}
 use Rattle.record.proofs.fits.fits.Statement.{statement}
 use Rattle.record.proofs.fits.fits.Tie as tie
 

@@ -1,6 +1,6 @@
 -- `record::fits::holds`: what the search of the column's part answers is said of the intervals that the record lists. Assumes nothing.
 use borrow.Author.Needs.{needs}
-use Rattle.record.specs.FitsLaws.{lent-is, held-in, held-nowhere}
+use Rattle.record.specs.Laws.Fits.{lent-is, held-in, held-nowhere}
 use Rattle.record.proofs.fits.holds.Statement.{statement}
 use Rattle.record.proofs.fits.holds.Tie as tie
 

@@ -2,14 +2,9 @@
 use Prim.Native.Nat.{_-_}
 use native.Mathlib.Omega.{arith}
 use Rattle.model.specs.Record.{part}
-use Rattle.record.specs.Leave.{Freeing, freeing, in-entries, freed-length, blocks-there, block-there, block-room, block-freed, all-freed}
+use Rattle.record.specs.Laws.Leave.{in-entries, Freeing, freeing, freed-length, blocks-there, all-freed, block-there, join-room, block-freed}
 use Rattle.record.proofs.leave.free_blocks.Statement.{statement}
 use Rattle.record.proofs.leave.free_blocks.Tie as tie
-use Rattle.record.proofs.leave.free_blocks.Reads as reads
-use Rattle.record.proofs.leave.free_blocks.Lts as lts
-use Rattle.record.proofs.entries.read_entry.Reads as read-entry-reads
-use Rattle.record.proofs.leave.join_column.Reads as join-column-reads
-use Rattle.task.proofs.block_at.Reads as block-at-reads
 
 abbrev Inv-loop : tie.InvT-loop
 Inv-loop record₀ k entry from to i₀ «record» i = Freeing record₀ k entry «record» i
@@ -62,7 +57,7 @@ sub-join-column-2 c = let x = block-there (c .before .before .before .before .be
 
 join-column-requires : tie.Need-join-column-requires Inv-loop μ-loop
 unfolding part
-join-column-requires c κs = block-room (c .before .before .before .before .before .before .before .before .before .before .before .before .loop .inv) (c .before .before .before .before .before .before .before .before .before .before .if1 .taken) _ (c .before .before .before .before .before .before .before .block-at .ensures)
+join-column-requires c κs = join-room (c .before .before .before .before .before .before .before .before .before .before .before .before .loop .inv) (c .before .before .before .before .before .before .before .before .before .before .if1 .taken) _ (c .before .before .before .before .before .before .before .block-at .ensures)
 
 add-i : tie.Need-add-i Inv-loop μ-loop
 add-i c = omega arith

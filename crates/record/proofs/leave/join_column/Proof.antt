@@ -8,9 +8,6 @@ use Rattle.model.specs.Laws.Parts.{splice}
 use Rattle.model.specs.Laws.Record.{put-column}
 use Rattle.record.proofs.leave.join_column.Statement.{statement}
 use Rattle.record.proofs.leave.join_column.Tie as tie
-use Rattle.record.proofs.leave.join_column.Reads as reads
-use Rattle.record.proofs.leave.join_column.Lts as lts
-use Rattle.column.proofs.join.Reads as join-reads
 
 add-count : tie.Need-add-count
 add-count c = search needs

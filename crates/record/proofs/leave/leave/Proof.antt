@@ -1,13 +1,8 @@
 -- `record::leave::leave`: the entry, its blocks, and then the entry taken out (`left-record`). Assumes nothing.
 use borrow.Author.Needs.{needs}
-use Rattle.record.specs.Leave.{found-not, found-runs, found-number, entry-there, left-record}
+use Rattle.record.specs.Laws.Leave.{found-not, found-runs, found-number, entry-there, left-record}
 use Rattle.record.proofs.leave.leave.Statement.{statement}
 use Rattle.record.proofs.leave.leave.Tie as tie
-use Rattle.record.proofs.leave.leave.Reads as reads
-use Rattle.record.proofs.leave.leave.Lts as lts
-use Rattle.record.proofs.entries.find.Reads as find-reads
-use Rattle.record.proofs.entries.remove_entry.Reads as remove-entry-reads
-use Rattle.record.proofs.leave.free_blocks.Reads as free-blocks-reads
 
 find-requires : tie.Need-find-requires
 find-requires c κs = search needs

@@ -6,7 +6,7 @@ use borrow.Author.Needs.{needs}
 use borrow.Author.Tests.{not-true, not-false}
 use lib.ListN.{length}
 use Rattle.record.specs.Rebuild.{Rebuilt}
-use Rattle.record.specs.RebuildLaws.{refused-running, step-refused, step-made}
+use Rattle.record.specs.Laws.Rebuild.{step-refused, step-made, refused-running}
 use Rattle.record.proofs.sound.enter_all.Statement.{statement}
 use Rattle.record.proofs.sound.enter_all.Tie as tie
 

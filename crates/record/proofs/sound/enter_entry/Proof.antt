@@ -3,7 +3,7 @@ use mathlib.Core.Path.{refl}
 use native.Mathlib.Omega.{arith}
 use borrow.Author.Needs.{needs}
 use borrow.Author.Tests.{not-true, not-false}
-use Rattle.record.specs.RebuildLaws.{refused-number, refused-none, refused-many, passes, step-refused, entry-ready, entry-tried}
+use Rattle.record.specs.Laws.Rebuild.{refused-number, refused-none, refused-many, passes, entry-ready, entry-tried, step-refused}
 use Rattle.record.proofs.sound.enter_entry.Statement.{statement}
 use Rattle.record.proofs.sound.enter_entry.Tie as tie
 

@@ -2,7 +2,7 @@
 use mathlib.Core.Path.{sym, _∙_}
 use borrow.Author.Needs.{needs}
 use borrow.Author.Tests.{not-true, not-false}
-use Rattle.record.specs.RebuildLaws.{tried-formless, tried-misfit, tried-entered}
+use Rattle.record.specs.Laws.Rebuild.{tried-formless, tried-misfit, tried-entered}
 use Rattle.record.proofs.sound.enter_task.Statement.{statement}
 use Rattle.record.proofs.sound.enter_task.Tie as tie
 

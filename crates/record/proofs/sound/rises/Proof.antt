@@ -1,6 +1,6 @@
 -- `record::sound::rises`: the first entry, and one with an entry before it. Assumes nothing.
 use borrow.Author.Needs.{needs}
-use Rattle.record.specs.RebuildLaws.{rises-first, rises-next}
+use Rattle.record.specs.Laws.Rebuild.{rises-first, rises-next}
 use Rattle.record.proofs.sound.rises.Statement.{statement}
 use Rattle.record.proofs.sound.rises.Tie as tie
 

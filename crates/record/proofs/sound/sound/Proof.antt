@@ -6,7 +6,7 @@ use borrow.Author.Needs.{needs}
 use borrow.Author.Tests.{not-true, not-false}
 use lib.ListN.{length-replicate}
 use Rattle.model.specs.Limits.{record-size}
-use Rattle.record.specs.RebuildLaws.{device-said, refused-length, refused-columns, refused-device, rebuilt-none, rebuilt-all}
+use Rattle.record.specs.Laws.Rebuild.{device-said, refused-length, refused-columns, refused-device, rebuilt-none, rebuilt-all}
 use Rattle.record.proofs.sound.sound.Statement.{statement}
 use Rattle.record.proofs.sound.sound.Tie as tie
 

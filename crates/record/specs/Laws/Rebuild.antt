@@ -1,138 +1,39 @@
 -- Why `sound` is right: in a sound record every running task passes each test and may be entered after those before it, and a record that is equal to what
 -- was rebuilt is sound. Assumes nothing.
-use Prim.Native.Nat.{ℕ, zero, suc, _+_, _-_, _*_, _/_, _%_, _≤_, _<_}
+use Prim.Native.Nat.{ℕ, suc, _+_, _-_, _*_, _%_, _≤_, _<_}
 use mathlib.Core.Path.{_≡_, refl, sym, ap, _∙_}
 use mathlib.Core.Logic.{_⊎_, inl, inr}
 use mathlib.Core.Bool.{Bool, true, false, true≢false, false≢true}
-use mathlib.Core.List.{List, [], _∷_, _++_}
+use mathlib.Core.List.{List, []}
 use native.Mathlib.Omega.{arith}
 use native.Mathlib.Numerals.{add-one}
-use native.Mathlib.Nat.{add-zero, div-add-mod, mod-lt}
 use lib.Dec.{ltb}
-use lib.ListN.{length, getD, take, drop, length-take, length-drop}
+use lib.ListN.{length, getD, take, drop}
 use lib.Seq.{take-suc, take-all, length-take-le}
-use borrow.Author.Tests.{le-leb, le-ltb, eq-eqb, ne-eqb}
+use borrow.Author.Tests.{le-leb, eq-eqb, ne-eqb}
 use Rattle.runs.specs.Laws.Tests.{tests}
-use Rattle.model.specs.Limits.{max-running, max-number, max-blocks, block-size, record-size, words, rows-at, columns-at, running-at, kinds-at, max-columns, entry-size, blocks-at}
-use Rattle.model.specs.Columns.{Device, columns, height, kind, device-ok}
+use Rattle.model.specs.Limits.{max-running, max-number, max-blocks, block-size, record-size, words, rows-at, columns-at, running-at, kinds-at, max-columns}
+use Rattle.model.specs.Columns.{Device, device-ok}
 use Rattle.model.specs.Tasks.{word, sized, well-formed}
-use Rattle.model.specs.Book.{Running, Book, covered, standing, held, fits}
-use Rattle.model.specs.Record.{record-of, part, entry-at, device-of, running-of, book-of}
-use Rattle.model.specs.Sound.{number-ok, within, block-count, sound}
+use Rattle.model.specs.Book.{Running, fits}
+use Rattle.model.specs.Record.{record-of, part, entry-at, device-of, book-of}
+use Rattle.model.specs.Sound.{number-ok, block-count, sound}
 use Rattle.model.specs.Calls.{insert}
-use Rattle.model.specs.Laws.Bounded.{clash, is-false, same-test, true-or-false, In, any-in-to}
-use Rattle.model.specs.Laws.Columns.{height-pos}
-use Rattle.model.specs.Laws.Limits.{Rising, Entry, limits-to, within-device, rising-above}
-use Rattle.model.specs.Laws.Cells.{covered-holds}
+use Rattle.model.specs.Laws.Bounded.{clash, is-false, same-test, true-or-false, In}
+use Rattle.model.specs.Laws.Limits.{Entry, limits-to, within-device}
 use Rattle.model.specs.Laws.Split.{fits-split}
-use Rattle.model.specs.Laws.Kept.{apart-cells, within-new, insert-within}
-use Rattle.model.specs.Laws.Parts.{getD-part, part-part, list-parts, getD-list}
+use Rattle.model.specs.Laws.Kept.{within-new, insert-within}
+use Rattle.model.specs.Laws.Parts.{list-parts}
 use Rattle.model.specs.Laws.Record.{no-entry}
-use Rattle.model.specs.Laws.ColumnPart.{word-part}
 use Rattle.model.specs.Laws.Clauses.{clauses-to}
 use Rattle.model.specs.Laws.WriteBack.{Bytes}
 use Rattle.model.specs.Laws.ReadBack.{getD-in, device-of-record, book-of-record}
 use Rattle.model.specs.Laws.Sound.{running-said, columns-said, record-sound, sound-length, sound-within, sound-record}
 use Rattle.words.specs.Words.{Same}
-use Rattle.record.specs.Entries.{number-said}
-use Rattle.record.specs.Rebuild.{entry-of, prior, blocks-of, said, HasEntry, Passes, Ready, Tried, Rebuilt, Step}
-
--- ---- the first j tasks of a book
-
-take-in : (b : Book) (j : ℕ) (f : Running) → In f (take j b) → In f b
-take-in b zero f i = absurd i
-take-in [] (suc j) f i = i
-take-in (e ∷ b) (suc j) f (inl q) = inl q
-take-in (e ∷ b) (suc j) f (inr i) = inr (take-in b j f i)
-
-prior-next : (m : ℕ) (e : Running) (b : Book) (j : ℕ) → prior m (e ∷ b) (suc j) ≡ prior (e .number) b j
-unfolding prior
-prior-next m e b zero = refl
-prior-next m e b (suc j) = refl
-
--- where numbers rise, that of task j is above those before it
-prior-below : (m : ℕ) (b : Book) → Rising m b → (j : ℕ) → j < length b → prior m b j < getD b j no-entry .number
-unfolding prior
-prior-below m [] r j q = absurd (omega arith)
-prior-below m (e ∷ b) r zero q = r .0
-prior-below m (e ∷ b) r (suc j) q = rw (prior-next m e b j) (prior-below (e .number) b (r .1) j (omega arith))
-
-taken-below : (m : ℕ) (b : Book) → Rising m b → (j : ℕ) → j < length b → (f : Running) → In f (take j b) → f .number < getD b j no-entry .number
-taken-below m b r zero q f i = absurd i
-taken-below m [] r (suc j) q f i = absurd i
-taken-below m (e ∷ b) r (suc j) q f (inl p) =
-    omega (arith, ap (λ (x : Running). x .number) p, rising-above (e .number) b (r .1) (getD b j no-entry) (getD-in b j no-entry (omega arith)))
-taken-below m (e ∷ b) r (suc j) q f (inr i) = taken-below (e .number) b (r .1) j (omega arith) f i
-
--- where those before task j rise, the last of them has the highest number
-prior-from : (m : ℕ) (b : Book) (j : ℕ) → Rising m (take j b) → j ≤ length b → m ≤ prior m b j
-unfolding prior
-prior-from m b zero r q = omega arith
-prior-from m [] (suc j) r q = absurd (omega arith)
-prior-from m (e ∷ b) (suc j) r q = rw (prior-next m e b j) (omega (arith, r .0, prior-from (e .number) b j (r .1) (omega arith)))
-
-prior-above : (m : ℕ) (b : Book) (j : ℕ) → Rising m (take j b) → j ≤ length b → (f : Running) → In f (take j b) → f .number ≤ prior m b j
-prior-above m b zero r q f i = absurd i
-prior-above m [] (suc j) r q f i = absurd i
-prior-above m (e ∷ b) (suc j) r q f (inl p) =
-    rw (prior-next m e b j) (omega (arith, ap (λ (x : Running). x .number) p, prior-from (e .number) b j (r .1) (omega arith)))
-prior-above m (e ∷ b) (suc j) r q f (inr i) = rw (prior-next m e b j) (prior-above (e .number) b j (r .1) (omega arith) f i)
-
--- a task with a number above all others goes to the end
-insert-last : (e : Running) (b : Book) → ((f : Running) → In f b → f .number < e .number) → insert e b ≡ b ++ (e ∷ [])
-unfolding insert
-insert-last e [] h = refl
-insert-last e (f ∷ b) h =
-    let l = h f (inl refl) in
-    rw (le-ltb (e .number) (f .number) (omega arith)) (ap (λ (x : Book). f ∷ x) (insert-last e b (λ g i. h g (inr i))))
-
-module _ (d : Device) (b : Book) (j : ℕ) (q : j < length b) where
-  -- THEOREM: within the limits, a task fits among those before it
-  pub fits-among : within d b ≡ true
-      → let e = getD b j no-entry in fits d (take j b) (e .task) (e .column) (e .bottom) ≡ true
-  unfolding held
-  fits-among w =
-      let e = getD b j no-entry in
-      let l = limits-to d b w in
-      let i = getD-in b j no-entry q in
-      let n = l .entries e i in
-      fits-split d (take j b) (e .task) (e .column) (e .bottom) .1 (
-        n .fits,
-        λ c z h. is-false (held (take j b) c z) (λ k.
-            let (f, m, g) = any-in-to (λ f. covered (standing f) c z) (take j b) k in
-            let o = taken-below 0 b (l .rising) j q f m in
-            let u = height (kind d c) in
-            let s : u * (z / u) + z % u ≡ z = div-add-mod z u in
-            let r : z % u < u = mod-lt z (height-pos (kind d c)) in
-            apart-cells d b w e f i (take-in b j f m) (λ p. omega arith) c (z / u)
-            (sym (covered-holds d e n c (z / u) (z % u) r) ∙ (rw s h))
-            (sym (covered-holds d f (l .entries f (take-in b j f m)) c (z / u) (z % u) r) ∙ (rw s g))),
-      )
-
--- ---- what entry j says
-
-module _ (r : List ℕ) (j : ℕ) (x : HasEntry r j) where
-  in-book : j < length (book-of r)
-  in-book = omega (arith, running-said r, x .runs)
-
-  entry-read : entry-of r j ≡ running-of (part r (entry-at j) entry-size)
-  unfolding book-of
-  entry-read = getD-list (λ j. running-of (part r (entry-at j) entry-size)) (getD r running-at 0) j no-entry (x .runs)
-
-  -- the entry is what its bytes say
-  entry-said : block-count r j ≤ max-blocks → entry-of r j ≡ said r j
-  unfolding running-of part
-  entry-said few =
-      let a = entry-at j in
-      let m = block-size * block-count r j in
-      let n = getD-part r a entry-size 3 0 (omega arith) in
-      let e : a + blocks-at + m - (a + blocks-at) ≡ m = omega arith in
-      entry-read ∙ (rw (e, rw add-zero at (word-part r a entry-size 0 (omega arith)), word-part r a entry-size 4 (omega arith), getD-part r a entry-size 2 0 (omega arith), n, part-part r a entry-size blocks-at m (omega arith)))
-
-  blocks-length : block-count r j ≤ max-blocks → length (blocks-of r j) ≡ block-size * block-count r j
-  blocks-length few =
-      let e : entry-at j + blocks-at + block-size * block-count r j - (entry-at j + blocks-at) ≡ block-size * block-count r j = omega arith in
-      rw e (simp (length-take, length-drop) (omega (arith, x .size)))
+use Rattle.record.specs.Entries.{entry-of, blocks-of, bytes-entry, HasEntry}
+use Rattle.record.specs.Rebuild.{prior, Passes, Ready, Tried, Rebuilt, Step}
+use Rattle.record.specs.Laws.Said.{number-said, in-book, entry-by-bytes, blocks-length}
+use Rattle.record.specs.Laws.Before.{prior-below, prior-above, insert-last, fits-among}
 
 -- whether its number n rises, from its bytes and those of the entry before it
 module _ (r : List ℕ) (j n : ℕ) (x : HasEntry r j) (e : n ≡ word r (entry-at j)) where
@@ -173,10 +74,10 @@ module _ (r : List ℕ) (j : ℕ) (x : HasEntry r j) (s : sound r ≡ true) wher
   }
 
   sound-formed : well-formed (blocks-of r j) ≡ true
-  sound-formed = rw (entry-said r j x (count-sound .1)) at (in-limits .well-formed)
+  sound-formed = rw (entry-by-bytes r j x (count-sound .1)) at (in-limits .well-formed)
 
   sound-fits : fits (device-of r) (take j (book-of r)) (blocks-of r j) (getD r (entry-at j + 2) 0) (word r (entry-at j + 4)) ≡ true
-  sound-fits = rw (entry-said r j x (count-sound .1)) at (fits-among (device-of r) (book-of r) j (in-book r j x) (sound-within r s))
+  sound-fits = rw (entry-by-bytes r j x (count-sound .1)) at (fits-among (device-of r) (book-of r) j (in-book r j x) (sound-within r s))
 
 -- so where a test fails, the record is not sound
 module _ (r : List ℕ) (j : ℕ) (x : HasEntry r j) where
@@ -248,12 +149,12 @@ module _ (r s : List ℕ) (j : ℕ) (m : Rebuilt r s j) where
       }
 
       -- one task more
-      rebuilt-next : (n : ℕ) → n ≡ j + 1 → (u : List ℕ) → (let e = said r j in Tried s (e .task) (e .number) (e .column) (e .bottom) u true) → Rebuilt r u n
+      rebuilt-next : (n : ℕ) → n ≡ j + 1 → (u : List ℕ) → (let e = bytes-entry r j in Tried s (e .task) (e .number) (e .column) (e .bottom) u true) → Rebuilt r u n
       rebuilt-next n k u v =
           let b = book-of r in
           let d = device-of r in
           let y = entry-of r j in
-          let is = entry-said r j x (t .few-blocks) in
+          let is = entry-by-bytes r j x (t .few-blocks) in
           let f : fits d (take j b) (y .task) (y .column) (y .bottom) ≡ true = rw is (rw (scratch-device, scratch-book) at (v .fitted refl)) in
           let more : insert y (take j b) ≡ take n b = rw (k, add-one) (insert-last y (take j b) below-number ∙ sym (take-suc b j no-entry (in-book r j x))) in
           let number = number-said r j (x .runs) in
@@ -271,7 +172,7 @@ module _ (r s : List ℕ) (j : ℕ) (m : Rebuilt r s j) where
           }
 
       -- THEOREM: where entry j is entered, it is so as the record has it; and where it is refused, the record is not sound
-      pub entry-tried : (n : ℕ) → n ≡ j + 1 → (u : List ℕ) (ok : Bool) → (let e = said r j in Tried s (e .task) (e .number) (e .column) (e .bottom) u ok) → Step r u n ok
+      pub entry-tried : (n : ℕ) → n ≡ j + 1 → (u : List ℕ) (ok : Bool) → (let e = bytes-entry r j in Tried s (e .task) (e .number) (e .column) (e .bottom) u ok) → Step r u n ok
       entry-tried n k u ok v = record {
         made = λ e. rebuilt-next n k u (rw e at v);
         refused = λ e. is-false (sound r) (λ y. v .refused e (sound-formed r j x y) (rw (scratch-device, scratch-book) (sound-fits r j x y)));
