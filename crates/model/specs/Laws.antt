@@ -43,6 +43,7 @@ pub mod Same
 pub mod Freed
 pub mod OtherColumns
 pub mod OnCells
+pub mod InOrder
 pub mod RangeBytes
 pub mod Step
 pub mod History

@@ -59,7 +59,7 @@ pub lines-read : map (λ (s : Said). sheet-line (s .line)) lines ≡ map (λ (s 
 unfolding lines all-in fields is digit decimal natural number natural-field height-field kind-letter kind-field call-of six sheet-line
 lines-read = refl
 
--- line 2, and the first line of document 01's output
+-- line 2 of document 01's sheet, and what its line 14 prints
 pub rows-read : device-line (text "5 CCB") ≡ some (record { rows = 5; kinds = 0 ∷ 0 ∷ 1 ∷ [] })
 unfolding all-in fields is digit decimal natural natural-field kind-letter kind-letters kinds-field device-line
 rows-read = refl

@@ -1,12 +1,12 @@
 -- Document 01, "Small cards, by hand": K1 to K10, rows of one table under one theorem, computed from the definitions. Assumes nothing.
-use Prim.Native.Nat.{ℕ, suc, _-_}
+use Prim.Native.Nat.{ℕ}
 use mathlib.Core.Path.{_≡_, refl}
 use mathlib.Core.List.{List, [], _∷_, _++_, map}
 use lib.IntN.{ℤ, pos, negsuc, negℤ}
 use lib.ListN.{replicate}
 use Rattle.runs.specs.Runs.{runs, push}
 use Rattle.runs.specs.Intervals.{intervals as maximal-runs}
-use Rattle.model.specs.Limits.{words, list-room}
+use Rattle.model.specs.Limits.{list-room}
 use Rattle.model.specs.Bounded.{all-below, any-below, sum-below, join-below, those-below, all-in, any-in, sum-in, join-in}
 use Rattle.model.specs.Columns.{Device, height, cells-in, top-in, columns, kind, cells, top}
 use Rattle.model.specs.Tasks.{word, lifted, blocks, block, sized, block-ok, follows, well-formed, step}
@@ -17,17 +17,9 @@ use Rattle.model.specs.Record.{bytes16}
 use Rattle.model.specs.Sound.{number-ok}
 use Rattle.model.specs.Calls.{Call, list, choose, place, release, lent, refused, no-position, runs-in, refusals, insert, without, natural, range-bytes, over, position-number, done, unless, on-book}
 use Rattle.model.specs.History.{trace, book-of-history}
+use Rattle.model.specs.Program.{block-bytes}
 
 -- ---- how the rows are written
-
--- two bytes of a signed number, two's complement
-abbrev signed : ℤ → List ℕ
-signed (pos n) = bytes16 n
-signed (negsuc n) = bytes16 (words - suc n)
-
--- a block's bytes
-unfoldable block-bytes : ℕ → ℕ → ℤ → ℤ → List ℕ
-block-bytes c k bottom top = (c ∷ k ∷ []) ++ signed bottom ++ signed top
 
 -- blocks of kind C and of kind B, from a bottom that is not negative
 abbrev C-block : ℕ → ℕ → ℕ → List ℕ
@@ -130,12 +122,14 @@ held-2-6 = held-2-4 ++ (place C-2 2 0 (pos 4) ∷ [])
 
 pub table : List Row
 table =
-    row 1 (answers K1 (list B-5 room ∷ choose B-5 ∷ [])) (negℤ (pos 9) ∷ negℤ (pos 9) ∷ [])
+    row 1 (numbers (cells K1 0 ∷ [])) (numbers (0 ∷ []))
+    ∷ row 1 (answers K1 (list B-5 room ∷ choose B-5 ∷ [])) (negℤ (pos 9) ∷ negℤ (pos 9) ∷ [])
     ∷ row 2 (numbers (listed K2 [] B-5)) (numbers (0 ∷ 0 ∷ 5 ∷ 0 ∷ []))
     ∷ row 3 (numbers (listed K3 [] lines-4-6)) (numbers (0 ∷ 4 ∷ 10 ∷ 4 ∷ []))
     ∷ row 3 (numbers (score K3 lines-4-6 0 4)) (numbers (5 ∷ 30 ∷ []))
     ∷ row 4 (numbers (listed K4 [] K4-task)) (numbers (0 ∷ 5 ∷ 10 ∷ 5 ∷ []))
     ∷ row 5 (numbers (listed K5 [] K5-task)) (numbers (0 ∷ 0 ∷ 10 ∷ 10 ∷ []))
+    ∷ row 5 (answers K5 held-2-4) (pos 0 ∷ [])
     ∷ row 5 (numbers (listed K5 held-2-4 K5-task)) (numbers (0 ∷ 0 ∷ 10 ∷ 10 ∷ []))
     ∷ row 6 (numbers (listed K6 [] C-2)) (numbers (0 ∷ 0 ∷ 2 ∷ 0 ∷ []))
     ∷ row 6 (answers K6 (list C-4 room ∷ choose C-4 ∷ [])) (negℤ (pos 9) ∷ negℤ (pos 9) ∷ [])

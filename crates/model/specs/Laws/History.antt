@@ -27,6 +27,7 @@ use Rattle.model.specs.Demand3.{AllOnCells, device, Listed, History}
 use Rattle.model.specs.Laws.Bounded.{In, and-to, and5-to, is-false}
 use Rattle.model.specs.Laws.Listing.{listing-names}
 use Rattle.model.specs.Laws.OnCells.{fitting-cells, nowhere-cells}
+use Rattle.model.specs.Laws.InOrder.{fitting-in-order}
 use Rattle.model.specs.Laws.RangeBytes.{read-ranges}
 use Rattle.model.specs.Laws.Step.{same-step, Fine, not-bad, list-done, list-none, choose-none}
 use Rattle.model.specs.Laws.Kept.{within-new, kept, apart-cells}
@@ -133,6 +134,7 @@ history r rows kinds e cs = after (on-records (new r rows kinds .state) cs) (boo
           same-bytes = h .final;
           listing = λ t o s f l p y c. rw (h .final) (listed d (B .final) w t s f o l p y c);
           positions = λ t s f p y. fitting-cells d (B .final) w t f s p y;
+          in-order = λ t. fitting-in-order d (B .final) t;
           list-none = λ t o s f l. rw (h .final) (no-list d (B .final) w t s f o l);
           choose-none = λ t s f. rw (h .final) (no-choice d (B .final) w t s f);
           alike = λ r′ e′ cs′ m.

@@ -1,20 +1,22 @@
 -- A call on any byte string, by the first refusal that applies: what each return of an exported function shows. Assumes nothing.
 use Prim.Native.Nat.{ℕ, _≤_, _<_}
 use mathlib.Core.Path.{_≡_, refl, sym, ap, _∙_}
-use mathlib.Core.Logic.{_≢_}
+use mathlib.Core.Logic.{_⊎_, inl, inr, _≢_}
 use mathlib.Core.Bool.{true, false}
 use mathlib.Core.Option.{Option, none, some}
 use mathlib.Core.List.{List, []}
+use native.Mathlib.Decide.{ℕ-discrete}
 use borrow.Author.Tests.{eq-eqb, ne-eqb, lt-ltb, le-ltb}
 use lib.IntN.{pos, negℤ}
 use lib.ListN.{length}
 use Rattle.model.specs.Limits.{record-size}
 use Rattle.model.specs.Columns.{Device, columns, device-ok}
-use Rattle.model.specs.Book.{intervals}
+use Rattle.model.specs.Book.{Book, intervals}
 use Rattle.model.specs.Record.{record-of, device-of, book-of}
 use Rattle.model.specs.Sound.{sound}
-use Rattle.model.specs.Calls.{Call, Outcome, refused, refusals, unless, lent, done, on-book}
+use Rattle.model.specs.Calls.{Call, list, choose, Outcome, refused, refusals, unless, lent, done, on-book}
 use Rattle.model.specs.OnRecord.{written, on-record, new, interval-count}
+use Rattle.model.specs.Laws.Bounded.{true-or-false}
 use Rattle.model.specs.Laws.WriteBack.{Bytes}
 use Rattle.model.specs.Laws.Sound.{sound-length, sound-record}
 
@@ -48,6 +50,39 @@ module _ (r : List ℕ) (c : Call) where
     pub done-call : refused (refusals (device-of r) (book-of r) c) ≡ none → on-record r c ≡ written (device-of r) (done (device-of r) (book-of r) c)
     unfolding on-book unless
     done-call e = sound-call ∙ rw e
+
+-- ---- what a call leaves
+
+-- a call leaves the bytes as they were, or, on a sound record, the record of the book after it
+pub left : (r : List ℕ) (c : Call) → Bytes r → (P : List ℕ → Type 0) → P r
+    → (sound r ≡ true → P (record-of (device-of r) (done (device-of r) (book-of r) c .state))) → P (on-record r c .state)
+unfolding written
+left r c B P u v =
+    elim (ℕ-discrete (length r) record-size) [
+      | yes l ↦ judged l (true-or-false (sound r))
+      | no l ↦ rw (wrong-length-call r c l) u
+    ]
+  where
+    booked : sound r ≡ true → (o : Option ℕ) → refused (refusals (device-of r) (book-of r) c) ≡ o → P (on-record r c .state)
+    booked s none e = rw (done-call r c s e) (v s)
+    booked s (some n) e = rw (refused-call r c s B n e) u
+
+    judged : length r ≡ record-size → (sound r ≡ true) ⊎ (sound r ≡ false) → P (on-record r c .state)
+    judged l (inl s) = booked s (refused (refusals (device-of r) (book-of r) c)) refl
+    judged l (inr s) = rw (not-sound-call r c l s) u
+
+-- THEOREM: "Choose and list leave the record": a call that leaves the book leaves every byte, whatever bytes it was lent
+pub asks-leave : (r : List ℕ) (c : Call) → Bytes r → ((d : Device) (b : Book) → done d b c .state ≡ b) → on-record r c .state ≡ r
+asks-leave r c B h =
+    left r c B (λ s. s ≡ r) refl (λ s. ap (record-of (device-of r)) (h (device-of r) (book-of r)) ∙ sym (sound-record r B s))
+
+pub list-leaves : (r t o : List ℕ) → Bytes r → on-record r (list t o) .state ≡ r
+unfolding done
+list-leaves r t o B = asks-leave r (list t o) B (λ d b. refl)
+
+pub choose-leaves : (r t : List ℕ) → Bytes r → on-record r (choose t) .state ≡ r
+unfolding done
+choose-leaves r t B = asks-leave r (choose t) B (λ d b. refl)
 
 -- ---- new
 

@@ -1,29 +1,24 @@
 -- "The columns that the task does not cover keep their interval bytes": of place, on every byte string. Assumes nothing.
 use Prim.Native.Nat.{ℕ, _+_, _<_}
 use mathlib.Core.Path.{_≡_, refl, sym, ap, _∙_}
-use mathlib.Core.Logic.{_⊎_, inl, inr}
-use mathlib.Core.Bool.{true, false}
-use mathlib.Core.Option.{Option, none, some}
+use mathlib.Core.Bool.{false}
 use mathlib.Core.List.{List}
-use lib.Dec.{eqb}
 use lib.IntN.{ℤ}
-use lib.ListN.{length}
-use borrow.Author.Tests.{eq-eqb, ne-eqb, eqb-true}
+use borrow.Author.Tests.{ne-eqb}
 use Rattle.runs.specs.Laws.Intervals.{intervals-free, free-intervals}
-use Rattle.model.specs.Limits.{max-columns, record-size, column-size}
+use Rattle.model.specs.Limits.{max-columns, column-size}
 use Rattle.model.specs.Columns.{Device, top}
 use Rattle.model.specs.Tasks.{blocks, block}
 use Rattle.model.specs.Book.{Running, Book, placed, covers, covered, standing, free, intervals}
-use Rattle.model.specs.Record.{part, column-at, column-part, record-of, device-of, book-of}
-use Rattle.model.specs.Sound.{sound}
-use Rattle.model.specs.Calls.{place, running, insert, refused, refusals, done}
-use Rattle.model.specs.OnRecord.{written, on-record}
-use Rattle.model.specs.Laws.Bounded.{clash, true-or-false, any-none}
+use Rattle.model.specs.Record.{part, column-at, column-part, device-of, book-of}
+use Rattle.model.specs.Calls.{place, running, insert, done}
+use Rattle.model.specs.OnRecord.{on-record}
+use Rattle.model.specs.Laws.Bounded.{any-none}
 use Rattle.model.specs.Laws.WriteBack.{Bytes}
 use Rattle.model.specs.Laws.Record.{record-column}
 use Rattle.model.specs.Laws.Sound.{sound-record}
 use Rattle.model.specs.Laws.Freed.{free-insert}
-use Rattle.model.specs.Laws.OnRecord.{wrong-length-call, not-sound-call, refused-call, done-call}
+use Rattle.model.specs.Laws.OnRecord.{left}
 
 -- no block of task t, moved by p, stands in column c
 abbrev pub Clear : List ℕ → ℕ → ℕ → Type 0
@@ -47,30 +42,23 @@ intervals-kept d b e c h =
       );
     })
 
-module _ (r t : List ℕ) (n p : ℕ) (y : ℤ) (c : ℕ) (B : Bytes r) (l : c < max-columns) (h : Clear t p c) where
-  -- column c's 256 bytes are in s what they are in r
-  abbrev pub Stays : List ℕ → Type 0
-  Stays s = part s (column-at c) column-size ≡ part r (column-at c) column-size
+-- THEOREM: whatever bytes place is lent, and whatever it answers, column c's 256 bytes stay
+pub columns-kept : (r t : List ℕ) (n p : ℕ) (y : ℤ) (c : ℕ) → Bytes r → c < max-columns → Clear t p c
+    → part (on-record r (place t n p y) .state) (column-at c) column-size ≡ part r (column-at c) column-size
+unfolding done
+columns-kept r t n p y c B l h =
+    left r (place t n p y) B (λ s. column-of s ≡ column-of r) refl
+    (λ s.
+    record-column d (insert e b) c l ∙ ap column-part (intervals-kept d b e c h) ∙ sym (record-column d b c l) ∙ ap column-of (sym (sound-record r B s)))
+  where
+    column-of : List ℕ → List ℕ
+    column-of s = part s (column-at c) column-size
 
-  entered : sound r ≡ true → Stays (record-of (device-of r) (insert (running t n p y) (book-of r)))
-  entered s =
-      let (d, b, e) : Device × Book × Running = (device-of r, book-of r, running t n p y) in
-      record-column d (insert e b) c l ∙ ap column-part (intervals-kept d b e c h) ∙ sym (record-column d b c l)
-      ∙ ap (λ (q : List ℕ). part q (column-at c) column-size) (sym (sound-record r B s))
+    d : Device
+    d = device-of r
 
-  by-refusal : sound r ≡ true → (o : Option ℕ) → refused (refusals (device-of r) (book-of r) (place t n p y)) ≡ o → Stays (on-record r (place t n p y) .state)
-  unfolding written done
-  by-refusal s (some m) e = rw (refused-call r (place t n p y) s B m e)
-  by-refusal s none e = rw (done-call r (place t n p y) s e) (entered s)
+    b : Book
+    b = book-of r
 
-  by-sound : length r ≡ record-size → (sound r ≡ true) ⊎ (sound r ≡ false) → Stays (on-record r (place t n p y) .state)
-  by-sound e (inl s) = by-refusal s (refused (refusals (device-of r) (book-of r) (place t n p y))) refl
-  by-sound e (inr s) = rw (not-sound-call r (place t n p y) e s)
-
-  by-length : (eqb (length r) record-size ≡ true) ⊎ (eqb (length r) record-size ≡ false) → Stays (on-record r (place t n p y) .state)
-  by-length (inl e) = by-sound (eqb-true (length r) record-size e) (true-or-false (sound r))
-  by-length (inr e) = rw (wrong-length-call r (place t n p y) (λ q. clash (eq-eqb (length r) record-size q) e))
-
-  -- THEOREM: whatever bytes place is lent, and whatever it answers, the bytes of a column that the task does not cover stay
-  pub columns-kept : Stays (on-record r (place t n p y) .state)
-  columns-kept = by-length (true-or-false (eqb (length r) record-size))
+    e : Running
+    e = running t n p y
