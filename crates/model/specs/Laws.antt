@@ -38,6 +38,7 @@ pub mod NoPosition
 pub mod After
 -- the book after a call
 pub mod OnRecord
+pub mod Answers
 pub mod Kept
 pub mod Same
 pub mod Freed
