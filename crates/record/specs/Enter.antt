@@ -14,7 +14,8 @@ use lib.ListN.{length, getD}
 use borrow.Author.Tests.{eq-eqb, ne-eqb, le-leb, lt-ltb, not-true}
 use Rattle.runs.specs.Intervals.{Interval, Named, Apart, subtract, OnGrid, intervals as maximal-runs}
 use Rattle.runs.specs.Laws.Tests.{tests, lt-or-ge}
-use Rattle.runs.specs.Laws.Intervals.{Outside, intervals-free, free-intervals, subtract-free, subtract-grid, grid-count}
+use Rattle.runs.specs.Laws.Intervals.{Outside, intervals-free, free-intervals, subtract-free}
+use Rattle.runs.specs.Laws.Grid.{subtract-grid, grid-count}
 use Rattle.model.specs.Limits.{max-rows, max-columns, max-kind, max-running, max-number, max-intervals, block-size, reach, words, record-size, running-at, counts-at, column-size}
 use Rattle.model.specs.Bounded.{any-below}
 use Rattle.model.specs.Columns.{Device, columns, height, kind, cells, top}
@@ -39,7 +40,7 @@ use Rattle.model.specs.Laws.Sound.{sound-within, sound-record}
 use Rattle.task.specs.declared.Block.{Block as Read}
 use Rattle.task.specs.Blocks.{Same}
 use Rattle.column.specs.Part.{listed-in, Room}
-use Rattle.column.specs.Laws.{Encodes, encodes, room-of, free-small}
+use Rattle.column.specs.Laws.Part.{Encodes, encodes, room-of, free-small}
 use Rattle.record.specs.Entries.{Entered}
 
 -- the intervals that column c of r lists

@@ -9,7 +9,8 @@ use native.Mathlib.Decide.{ℕ-discrete}
 use native.Mathlib.Numerals.{add-one}
 use lib.ListN.{length, getD, take, drop}
 use Rattle.runs.specs.Intervals.{unite, OnGrid}
-use Rattle.runs.specs.Laws.Intervals.{intervals-free, free-intervals, unite-free, unite-grid}
+use Rattle.runs.specs.Laws.Intervals.{intervals-free, free-intervals, unite-free}
+use Rattle.runs.specs.Laws.Grid.{unite-grid}
 use Rattle.model.specs.Limits.{max-columns, max-blocks, max-running, block-size, reach, record-size, running-at, column-size, entry-size, blocks-at}
 use Rattle.model.specs.Bounded.{any-below}
 use Rattle.model.specs.Columns.{Device, height, kind, top}
@@ -33,7 +34,7 @@ use Rattle.model.specs.Laws.Sound.{running-said, sound-length, sound-within, so
 use Rattle.task.specs.declared.Block.{Block as Read}
 use Rattle.task.specs.Blocks.{Same}
 use Rattle.column.specs.Part.{Joinable}
-use Rattle.column.specs.Laws.{encodes, joinable-of}
+use Rattle.column.specs.Laws.Part.{encodes, joinable-of}
 use Rattle.record.specs.declared.entries.Entry.{Entry as ReadEntry}
 use Rattle.record.specs.declared.entries.Found.{Found}
 use Rattle.record.specs.declared.entries.Found.the-variants.{At, Nowhere}

@@ -1,5 +1,6 @@
 -- `listing::common_step` meets its contract: a itself, or the step of two ranges that both name 0. Assumes nothing.
-use Rattle.listing.specs.Laws.Arrays.{lcm-same, lcm-divides, steps-proper, zero-met, met-both}
+use Rattle.runs.specs.Laws.Lcm.{lcm-same, lcm-divides}
+use Rattle.listing.specs.Laws.Arrays.{steps-proper, zero-met, met-both}
 use borrow.Author.Needs.{needs}
 use Rattle.listing.proofs.common_step.Statement.{statement}
 use Rattle.listing.proofs.common_step.Tie as tie

@@ -5,17 +5,17 @@ use Rattle.runs.proofs.meet_equal.Statement.{statement}
 use Rattle.runs.proofs.meet_equal.Tie as tie
 use Rattle.runs.proofs.meet_equal.Reads as reads
 use Rattle.runs.proofs.meet_equal.Lts as lts
-use Rattle.runs.proofs.larger.Reads as larger-reads
-use Rattle.runs.proofs.smaller.Reads as smaller-reads
+use Rattle.runs.proofs.higher.Reads as higher-reads
+use Rattle.runs.proofs.lower.Reads as lower-reads
 
-larger-requires : tie.Need-larger-requires
-larger-requires c κs = search needs
+higher-requires : tie.Need-higher-requires
+higher-requires c κs = search needs
 
-smaller-requires : tie.Need-smaller-requires
-smaller-requires c κs = search needs
+lower-requires : tie.Need-lower-requires
+lower-requires c κs = search needs
 
-smaller-requires-2 : tie.Need-smaller-requires-2
-smaller-requires-2 c κs = search needs
+lower-requires-2 : tie.Need-lower-requires-2
+lower-requires-2 c κs = search needs
 
 sub-if1 : tie.Need-sub-if1
 sub-if1 c = search needs
@@ -26,22 +26,22 @@ rem-if1 c = search needs
 returns : tie.Need-returns
 returns c = let p = c .before .before .before .before .pre in
     met-equal (c .before .before .before .before .args .a) (c .before .before .before .before .args .b) (p .0) (p .1)
-    (c .before .before .before .larger .result) (c .before .before .smaller .result) (c .before .smaller2 .result)
-    (c .before .before .before .larger .ensures) (c .before .before .smaller .ensures) (c .before .smaller2 .ensures) (p .2) (c .if1 .taken) (p .3) (p .4)
+    (c .before .before .before .higher .result) (c .before .before .lower .result) (c .before .lower2 .result)
+    (c .before .before .before .higher .ensures) (c .before .before .lower .ensures) (c .before .lower2 .ensures) (p .2) (c .if1 .taken) (p .3) (p .4)
 
 returns-2 : tie.Need-returns-2
 returns-2 c = let p = c .before .before .before .before .pre in
     unmet-equal (c .before .before .before .before .args .a) (c .before .before .before .before .args .b) (p .0) (p .1)
-    (c .before .before .before .larger .result) (c .before .before .smaller .result) (c .before .smaller2 .result)
-    (c .before .before .before .larger .ensures) (c .before .before .smaller .ensures) (c .before .smaller2 .ensures) (p .2) (c .if1 .left)
+    (c .before .before .before .higher .result) (c .before .before .lower .result) (c .before .lower2 .result)
+    (c .before .before .before .higher .ensures) (c .before .before .lower .ensures) (c .before .lower2 .ensures) (p .2) (c .if1 .left)
 
 pub meet-equal-spec : {M : Type 1} → statement M
 meet-equal-spec =
     tie.close
     (tie.spec
-    larger-requires
-    smaller-requires
-    smaller-requires-2
+    higher-requires
+    lower-requires
+    lower-requires-2
     sub-if1
     rem-if1
     returns

@@ -5,8 +5,8 @@ use mathlib.Core.Logic.{inl, inr}
 use mathlib.Core.List.{List, [], _∷_}
 use native.Mathlib.Omega.{arith}
 use lib.ListN.{length, getD}
 use Rattle.runs.specs.Runs.{Run, run, Steps, In, Mem, From}
-use Rattle.runs.specs.Laws.Runs.{mem-ge}
+use Rattle.runs.specs.Laws.Canon.{mem-ge}
 
 -- where run i of L begins; past the last run, at h
 abbrev pub start-of : ℕ → List Run → ℕ → ℕ

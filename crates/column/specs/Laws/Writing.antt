@@ -1,28 +1,23 @@
--- Laws of the loops that read a part from its front and write another. Assumes nothing.
+-- The loops of `cut` and `join`: they read a part from its front, and write another. Assumes nothing.
 use Prim.Native.Nat.{ℕ, suc, _+_, _-_, _*_, _≤_, _<_, min, max}
 use mathlib.Core.Path.{_≡_, refl, sym, ap, _∙_}
-use mathlib.Core.Bool.{Bool, true, false, cond}
 use mathlib.Core.List.{List, [], _∷_, _++_, append-assoc, append-nil}
 use native.Mathlib.Omega.{arith}
-use native.Mathlib.Nat.{sub-zero}
-use native.Mathlib.Numerals.{add-one}
-use lib.Dec.{ltb}
+use native.Mathlib.Decide.{decLt}
 use lib.ListN.{length, replicate, length-append}
-use borrow.Author.Tests.{lt-ltb, le-ltb, le-leb}
-use Rattle.runs.specs.Intervals.{Interval, interval, piece, subtract, unite}
-use Rattle.runs.specs.Laws.Streaming.{piece-some, piece-none}
+use borrow.Author.Tests.{lt-ltb, le-ltb}
+use Rattle.runs.specs.Intervals.{Interval, interval, Apart, piece, subtract, unite}
+use Rattle.runs.specs.Laws.Streaming.{piece-some, piece-none, piece-append, unite-before}
 use Rattle.model.specs.Limits.{max-intervals, column-size, interval-size, words}
 use Rattle.model.specs.Record.{bytes16, interval-bytes, column-part}
 use Rattle.model.specs.Laws.Parts.{splice, splice-more}
 use Rattle.model.specs.Laws.Record.{length-column}
-use Rattle.model.specs.Laws.Bounded.{is-false}
 use Rattle.model.specs.Laws.Slots.{slots-nil}
 use Rattle.model.specs.Laws.ColumnPart.{column-push}
 use Rattle.column.specs.declared.Interval.{Interval as Read}
 use Rattle.column.specs.declared.Joining.{Joining}
-use Rattle.column.specs.declared.Held.the-variants.{In, Nowhere}
-use Rattle.column.specs.Part.{listed-from, listed-in, ReadAt, Holding, Wrote, Changed, Joinable, sent, carried, merged, Absorbed, holding}
-use Rattle.column.specs.Laws.{merged-unite, merged-some, holds?, holds-yes}
+use Rattle.column.specs.Part.{listed-from, listed-in, ReadAt, Holding, Wrote, Changed, Joinable, sent, carried, merged, Absorbed}
+use Rattle.column.specs.Laws.Reading.{listed-all, listed-end, listed-next}
 
 -- ---- what `push` and `keep` write
 
@@ -82,28 +77,7 @@ copied e c = record { bytes-are = e ∙ c .bytes-are; count-is = c .count-is }
 changed : {f : List Interval → List Interval} {p q : List ℕ} {n r : ℕ} → Holding q r (f (listed-in p n)) → Changed f p n q r
 changed h = record { bytes-are = h .bytes-are; count-is = h .count-is }
 
--- ---- the intervals read: at the start, one more, at the end
-
-pub listed-all : (p : List ℕ) (n : ℕ) → listed-in p n ≡ listed-from p 0 (n - 0)
-unfolding listed-in
-listed-all p n = rw sub-zero
-
-pub listed-end : {i n : ℕ} (p : List ℕ) → n ≤ i → listed-from p i (n - i) ≡ []
-listed-end {i} {n} p h = let e : n - i ≡ 0 = omega arith in rw e
-
-module _ {p : List ℕ} {i n : ℕ} {x : Read} (q : i < n) (r : ReadAt p i x) where
-  pub listed-next : listed-from p i (n - i) ≡ interval (x .bottom) (x .top) ∷ listed-from p (i + 1) (n - (i + 1))
-  listed-next = let e : n - i ≡ suc (n - (i + 1)) = omega arith in rw (e, r .is, add-one)
-
 -- ---- `cut`
-
-piece-front : (a b : ℕ) (R : List Interval) → piece a b R ≡ piece a b [] ++ R
-unfolding piece
-piece-front a b R = go (ltb a b)
-  where
-    go : (t : Bool) → cond t (interval a b ∷ R) R ≡ cond t (interval a b ∷ []) [] ++ R
-    go true = refl
-    go false = refl
 
 pub cut-next : {G : List Interval} {p o : List ℕ} {i n c : ℕ} {x : Read} (b t : ℕ) {lo hi : ℕ} → Writing G o c (subtract b t (listed-from p i (n - i)))
     → i < n → ReadAt p i x → hi ≡ min (x .top) b → lo ≡ max (x .bottom) t
@@ -112,7 +86,7 @@ unfolding subtract
 cut-next {p = p} {i = i} {n = n} {x = x} b t {lo} {hi} w q r e f =
     let R = subtract b t (listed-from p (i + 1) (n - (i + 1))) in
     let two : subtract b t (listed-from p i (n - i)) ≡ piece (x .bottom) hi [] ++ (piece lo (x .top) [] ++ R) =
-    rw (listed-next q r, ← e, ← f) (piece-front (x .bottom) hi (piece lo (x .top) R) ∙ ap (λ (l : List Interval). piece (x .bottom) hi [] ++ l) (piece-front lo (x .top) R)) in
+    rw (listed-next q r, ← e, ← f) (sym (rw (piece-append lo (x .top) [] R) (piece-append (x .bottom) hi [] (piece lo (x .top) R)))) in
     rw two at w
 
 pub cut-start : {o : List ℕ} (b t : ℕ) (p : List ℕ) (n : ℕ) → o ≡ column-part [] → Writing (subtract b t (listed-in p n)) o 0 (subtract b t (listed-from p 0 (n - 0)))
@@ -126,7 +100,33 @@ cut-end b t p h w = changed (all-done (rw (listed-end p h) at w))
 pub keep-room : {G : List Interval} {o : List ℕ} {n m : ℕ} (a b : ℕ) (R : List Interval) → Writing G o n (piece a b [] ++ R) → length G ≤ m → a < b → n < m
 keep-room a b R w h k = room w h (rw (piece-some a b [] k) (omega arith))
 
--- ---- `join`
+-- ---- `join`, one interval after the other
+
+-- an interval that stands before all of L is put before L
+unite-first : (b t : ℕ) (L : List Interval) → b < t → Apart (suc t) L → unite b t L ≡ interval b t ∷ L
+unfolding unite
+unite-first b t [] p c = refl
+unite-first b t (i ∷ L) p c = unite-before b t i L (omega arith) (omega arith)
+
+-- on a canonical list that is `unite`
+merged-unite : (b t m : ℕ) (L : List Interval) → Apart m L → merged b t L ≡ unite b t L
+unfolding merged sent carried unite
+merged-unite b t m [] c = refl
+merged-unite b t m (i ∷ L) c =
+    let rest : (x y : ℕ) → merged x y L ≡ unite x y L = λ x y. merged-unite x y (suc (i .top)) L (c .2) in
+    elim (decLt (i .top) b) [
+      | yes h ↦ rw (lt-ltb (i .top) b h) (ap (λ (l : List Interval). i ∷ l) (rest b t))
+      | no h ↦ rw (le-ltb (i .top) b (omega arith)) (elim (decLt t (i .bottom)) [
+        | yes k ↦ rw (lt-ltb t (i .bottom) k)
+            (ap (λ (l : List Interval). interval b t ∷ l) (rest (i .bottom) (i .top) ∙ unite-first (i .bottom) (i .top) L (c .1) (c .2)))
+        | no k ↦ rw (le-ltb t (i .bottom) (omega arith)) (rest (min b (i .bottom)) (max t (i .top)))
+      ])
+    ]
+
+merged-some : (b t : ℕ) (L : List Interval) → 1 ≤ length (merged b t L)
+unfolding merged
+merged-some b t [] = omega arith
+merged-some b t (i ∷ L) = rw length-append (omega (arith, merged-some (carried b t i .bottom) (carried b t i .top) L))
 
 pub join-start : {o : List ℕ} {b t : ℕ} {p : List ℕ} {n : ℕ} → Joinable b t p n → o ≡ column-part [] → Writing (unite b t (listed-in p n)) o 0 (merged b t (listed-from p 0 (n - 0)))
 join-start {b = b} {t = t} {p = p} {n = n} j e = rw (← listed-all p n, merged-unite b t 0 (listed-in p n) (j .canon)) (start e)
@@ -172,20 +172,3 @@ absorbed-met s x g h e f (l, m, n) = record {
   bottom-small = omega arith;
   top-small = omega arith;
 }
-
--- ---- `holder`: no interval below i holds b..t
-
-module _ {p : List ℕ} {i n : ℕ} {x : Read} (q : i < n) (r : ReadAt p i x) (b t : ℕ) (so-far : holding b t (listed-in p n) ≡ holding b t (listed-from p i (n - i))) where
-  pub held : x .bottom ≤ b → t ≤ x .top → In x ≡ holding b t (listed-in p n)
-  unfolding holding
-  held g h = sym (so-far ∙ rw (listed-next q r, le-leb (x .bottom) b g, le-leb t (x .top) h))
-
-  pub passed : (x .bottom ≤ b → t ≤ x .top → ⊥) → holding b t (listed-in p n) ≡ holding b t (listed-from p (i + 1) (n - (i + 1)))
-  unfolding holding
-  passed out =
-      let i = interval (x .bottom) (x .top) in
-      so-far ∙ rw (listed-next q r, is-false (holds? b t i) (λ e. let (g, h) = holds-yes b t i e in out g h))
-
-pub none-held : {i n : ℕ} (p : List ℕ) (b t : ℕ) → n ≤ i → holding b t (listed-in p n) ≡ holding b t (listed-from p i (n - i)) → Nowhere ≡ holding b t (listed-in p n)
-unfolding holding
-none-held p b t h so-far = sym (rw (listed-end p h) at so-far)
