@@ -240,7 +240,7 @@ fn climb_column(
     requires { ⌜ Given (now «record») (now task) × (column < max-columns) × (step ≡ step-of (now task)) × Room (now firsts) (now lasts) × Small best ⌝ }
     ensures { λ r. ⌜ Climbed (judge (device-of (now («record» .entry))) (book-of (now («record» .entry))) (now (task .entry))) column 0 (half-rows (device-of (now («record» .entry)))) best r ⌝ }
 {
-    let count = listing::column_ranges(record, task, column as usize, firsts, lasts);
+    let count = listing::columns::column_ranges(record, task, column as usize, firsts, lasts);
     climb_ranges(
         record,
         task,

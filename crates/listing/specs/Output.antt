@@ -15,8 +15,8 @@ use Rattle.model.specs.Record.{device-of, book-of}
 use Rattle.model.specs.Calls.{range-bytes, over, no-position}
 use Rattle.listing.specs.Arrays.{max-runs, Room}
 use Rattle.listing.specs.Columns.{ranges-in}
-use Rattle.listing.specs.declared.Listed.{Listed}
-use Rattle.listing.specs.declared.Listed.the-variants.{Ranges, NoPosition}
+use Rattle.listing.specs.declared.output.Listed.{Listed}
+use Rattle.listing.specs.declared.output.Listed.the-variants.{Ranges, NoPosition}
 
 -- a range fits its bytes, and has room as number n of an output of that size
 pub record Writable (size n column step first last : ℕ) : Type 0 where

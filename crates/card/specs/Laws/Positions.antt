@@ -24,8 +24,8 @@ use Rattle.model.specs.Laws.Sound.{sound-within}
 use Rattle.model.specs.Laws.OnRecord.{refused-call, done-call}
 use Rattle.listing.specs.Columns.{Given}
 use Rattle.listing.specs.Output.{Answers}
-use Rattle.listing.specs.declared.Listed.{Listed}
-use Rattle.listing.specs.declared.Listed.the-variants.{Ranges, NoPosition}
+use Rattle.listing.specs.declared.output.Listed.{Listed}
+use Rattle.listing.specs.declared.output.Listed.the-variants.{Ranges, NoPosition}
 use Rattle.choice.specs.Choosing.{Chooses}
 use Rattle.choice.specs.declared.Best.{Best}
 use Rattle.choice.specs.declared.Best.the-variants.{Nothing, At as BestAt}

@@ -12,7 +12,7 @@ use Rattle.model.specs.Limits.{max-intervals, words}
 use Rattle.model.specs.Record.{column-part}
 use Rattle.model.specs.Laws.Record.{length-column}
 use Rattle.model.specs.Laws.ColumnPart.{interval-bottom, interval-top}
-use Rattle.column.specs.Part.{interval-at, listed-from, listed-in, Part, Room, Changed, Joinable}
+use Rattle.column.specs.Part.{interval-at, listed-from, listed-in, Part, Room, Joinable}
 
 -- ---- small bounds
 
@@ -71,7 +71,3 @@ module _ {p : List ℕ} {n : ℕ} {is : List Interval} (e : Encodes p n is) wher
 
   pub joinable-of : (b t : ℕ) → Apart 0 is → b < words → t < words → length (unite b t is) ≤ max-intervals → Joinable b t p n
   joinable-of b t c l m h = record { has-room = room-of (unite b t) h; canon = rw (encodes e) c; bottom-small = l; top-small = m }
-
-  -- what `cut` and `join` leave is the part of the changed list
-  pub changed-is : {f : List Interval → List Interval} {q : List ℕ} {r : ℕ} → Changed f p n q r → (q ≡ column-part (f is)) × (r ≡ length (f is))
-  changed-is c = (rw (encodes e) at (c .bytes-are), rw (encodes e) at (c .count-is))

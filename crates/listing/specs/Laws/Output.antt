@@ -25,7 +25,7 @@ use Rattle.model.specs.Laws.Sound.{sound-within}
 use Rattle.listing.specs.Arrays.{max-runs, read, Room}
 use Rattle.listing.specs.Columns.{Given, ranges-in, Ranged}
 use Rattle.listing.specs.Output.{Writable, AllWritable, column-bytes, ranges-below, Answers}
-use Rattle.listing.specs.declared.Listed.the-variants.{Ranges, NoPosition}
+use Rattle.listing.specs.declared.output.Listed.the-variants.{Ranges, NoPosition}
 use Rattle.listing.specs.Laws.Blocks.{step-ten}
 use Rattle.listing.specs.Laws.Arrays.{length-read, ends-named}
 use Rattle.listing.specs.Laws.Column.{some-blocks, few-columns}
