@@ -2,7 +2,7 @@
 // Each contract equates the answer and every lent byte with document 01's call on that byte string (model/specs/OnRecord.antt), refusals included.
 // `on-record` is also the step of the theorem about whole histories (model/specs/Laws/History.antt).
 use choice::Best;
-use listing::Listed;
+use listing::output::Listed;
 use record::entries::Found;
 ghost use mathlib.Core.Path.{_≡_};
 ghost use mathlib.Core.Bool.{true};
@@ -212,7 +212,7 @@ fn list_task(record: &[u8], task: &[u8], output: &mut [u8]) -> i32
     if output.len() < model::LIST_ROOM {
         return SHORT_OUTPUT;
     }
-    match listing::list(record, task, output) {
+    match listing::output::list(record, task, output) {
         Listed::Ranges(count) => count as i32,
         Listed::NoPosition => NO_POSITION,
     }

@@ -6,11 +6,11 @@ use mathlib.Core.Bool.{Bool, true, false, not, cond, _&&_}
 use mathlib.Core.List.{List}
 use lib.Dec.{ltb, eqb}
 use lib.ListN.{length, getD}
-use Rattle.runs.specs.Runs.{Run, run, Steps, In, runs}
+use Rattle.runs.specs.Runs.{Run, run, Steps, In}
 use Rattle.runs.specs.Intervals.{Interval, interval}
 use Rattle.runs.specs.declared.Range.{Range}
 use Rattle.model.specs.Limits.{max-rows, max-columns, max-blocks, words}
-use Rattle.model.specs.Columns.{Device, half-rows}
+use Rattle.model.specs.Columns.{Device}
 use Rattle.model.specs.Tasks.{step}
 use Rattle.model.specs.Book.{Book, Placed, placed, fits, intervals}
 use Rattle.model.specs.Choice.{home, Judge, judge, Found, nothing, at, climb, chosen}
@@ -102,10 +102,6 @@ pub record FitsRange (d : Device) (b : Book) (t : List ℕ) (p : ℕ) (R : Range
   pub last-in : Steps (step t) (R .first) (R .last)
   pub all-fit : (y : ℕ) → In (step t) y (run (R .first) (R .last)) → fits d b t p y ≡ true
   pub ends : fits d b t p (R .last + step t) ≡ false
-
--- the ranges of column p
-abbrev pub ranges-in : Device → Book → List ℕ → ℕ → List Run
-ranges-in d b t p = runs (step t) (fits d b t p) (half-rows d)
 
 -- the runs L, as two lists of their firsts and of their lasts
 pub record RangesAre (L : List Run) (firsts lasts : List ℕ) : Type 0 where

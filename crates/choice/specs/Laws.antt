@@ -2,5 +2,4 @@
 pub mod Seats
 pub mod Scores
 pub mod Climbs
-pub mod Ranges
 pub mod Columns

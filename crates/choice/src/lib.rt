@@ -15,12 +15,12 @@ ghost use Rattle.model.specs.Record.{device-of, book-of};
 ghost use Rattle.model.specs.Sound.{sound};
 ghost use Rattle.model.specs.Laws.Homes.{bit};
 ghost use Rattle.listing.specs.Arrays.{Room};
-ghost use Rattle.listing.specs.Columns.{Given};
-ghost use Rattle.choice.specs.Choosing.{Seated, piece-below, pieces-of, max-pieces, max-stretch, Scored, Small, better-of, Rises, Climbed, FitsRange, ranges-in, RangesAre, Chooses};
+ghost use Rattle.listing.specs.Columns.{Given, ranges-in};
+ghost use Rattle.choice.specs.Choosing.{Seated, piece-below, pieces-of, max-pieces, max-stretch, Scored, Small, better-of, Rises, Climbed, FitsRange, RangesAre, Chooses};
 use column::Held;
 use column::Interval;
 use runs::Range;
-use words::lower;
+use runs::lower;
 
 // More room than any block has.
 const MOST_ROOM: u32 = 65535;
@@ -240,7 +240,7 @@ fn climb_column(
     requires { ⌜ Given (now «record») (now task) × (column < max-columns) × (step ≡ step-of (now task)) × Room (now firsts) (now lasts) × Small best ⌝ }
     ensures { λ r. ⌜ Climbed (judge (device-of (now («record» .entry))) (book-of (now («record» .entry))) (now (task .entry))) column 0 (half-rows (device-of (now («record» .entry)))) best r ⌝ }
 {
-    let count = listing::column_ranges(record, task, column as usize, firsts, lasts);
+    let count = listing::columns::column_ranges(record, task, column as usize, firsts, lasts);
     climb_ranges(
         record,
         task,

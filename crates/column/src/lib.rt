@@ -10,10 +10,10 @@ ghost use Rattle.model.specs.Record.{column-part};
 ghost use Rattle.column.specs.Part.{Part, ReadAt, listed-in, Room, Joinable, Wrote, Absorbed, Changed, holding};
 use model::COLUMN_SIZE;
 use model::INTERVAL_SIZE;
+use runs::higher;
+use runs::lower;
 use words::copy;
 use words::get16;
-use words::higher;
-use words::lower;
 use words::put16;
 
 // The half rows from bottom up to top, top excluded.

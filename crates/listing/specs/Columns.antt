@@ -6,9 +6,9 @@ use mathlib.Core.List.{List, [], _∷_}
 use lib.ListN.{length}
 use Rattle.runs.specs.Runs.{Run, run, runs}
 use Rattle.model.specs.Limits.{block-size, max-kind, max-rows}
-use Rattle.model.specs.Columns.{columns, half-rows, kind, height}
+use Rattle.model.specs.Columns.{Device, columns, half-rows, kind, height}
 use Rattle.model.specs.Tasks.{blocks, block, step, sized, well-formed}
-use Rattle.model.specs.Book.{fits}
+use Rattle.model.specs.Book.{Book, fits}
 use Rattle.model.specs.Record.{device-of, book-of}
 use Rattle.model.specs.Sound.{sound}
 use Rattle.listing.specs.Bottoms.{lift, Standing}
@@ -69,10 +69,10 @@ pub record Lifted (r t : List ℕ) (p : ℕ) (F T : List ℕ) (n : ℕ) : Type 0
   pub lifted : LiftedTo r t p (blocks t) n step F T
 
 -- the fitting bottoms of a task in column p, as the model lists them
-abbrev pub column-runs : List ℕ → List ℕ → ℕ → List Run
-column-runs r t p = runs (step t) (fits (device-of r) (book-of r) t p) (half-rows (device-of r))
+abbrev pub ranges-in : Device → Book → List ℕ → ℕ → List Run
+ranges-in d b t p = runs (step t) (fits d b t p) (half-rows d)
 
 -- the first n runs of the arrays are these
 pub record Ranged (r t : List ℕ) (p : ℕ) (firsts lasts : List ℕ) (n : ℕ) : Type 0 where
   pub few : n ≤ max-runs
-  pub runs : read n firsts lasts ≡ column-runs r t p
+  pub runs : read n firsts lasts ≡ ranges-in (device-of r) (book-of r) t p

@@ -11,11 +11,12 @@ use Rattle.model.specs.Columns.{Device}
 use Rattle.model.specs.Tasks.{step}
 use Rattle.model.specs.Book.{Book}
 use Rattle.model.specs.Listing.{Range, range-of, ranges}
+use Rattle.model.specs.Record.{device-of, book-of}
 use Rattle.model.specs.Calls.{range-bytes, over, no-position}
 use Rattle.listing.specs.Arrays.{max-runs, Room}
-use Rattle.listing.specs.Columns.{column-runs}
-use Rattle.listing.specs.declared.Listed.{Listed}
-use Rattle.listing.specs.declared.Listed.the-variants.{Ranges, NoPosition}
+use Rattle.listing.specs.Columns.{ranges-in}
+use Rattle.listing.specs.declared.output.Listed.{Listed}
+use Rattle.listing.specs.declared.output.Listed.the-variants.{Ranges, NoPosition}
 
 -- a range fits its bytes, and has room as number n of an output of that size
 pub record Writable (size n column step first last : ℕ) : Type 0 where
@@ -40,7 +41,7 @@ column-bytes p s L = join-in range-bytes (map (range-of p s) L)
 
 -- the ranges of the columns below p
 abbrev pub ranges-below : List ℕ → List ℕ → ℕ → List Range
-ranges-below r t p = join-below p (λ q. map (range-of q (step t)) (column-runs r t q))
+ranges-below r t p = join-below p (λ q. map (range-of q (step t)) (ranges-in (device-of r) (book-of r) t q))
 
 -- what `list` answers, and its output before and after: "The answer is their number; bytes after them stay." "−9: no position fits"
 abbrev pub Answers : Listed → Device → Book → List ℕ → List ℕ → List ℕ → Type 0

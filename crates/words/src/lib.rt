@@ -1,6 +1,6 @@
-// Numbers and bytes in a slice: two-byte numbers read and written, a slice copied, wiped and compared, the lower and the higher of two numbers.
+// Numbers and bytes in a slice: two-byte numbers read and written, a slice copied, wiped and compared.
 ghost use mathlib.Core.Path.{_≡_};
-ghost use Prim.Native.Nat.{_+_, _<_, min, max};
+ghost use Prim.Native.Nat.{_+_, _<_};
 ghost use lib.ListN.{length, replicate};
 ghost use Rattle.model.specs.Limits.{words};
 ghost use Rattle.model.specs.Record.{bytes16};
@@ -89,16 +89,4 @@ pub fn equal(a: &[u8], b: &[u8]) -> bool
         at = end;
     }
     equal_block(&a[at..], &b[at..])
-}
-
-pub fn lower(a: u32, b: u32) -> u32
-    ensures { λ r. ⌜ r ≡ min a b ⌝ }
-{
-    if a < b { a } else { b }
-}
-
-pub fn higher(a: u32, b: u32) -> u32
-    ensures { λ r. ⌜ r ≡ max a b ⌝ }
-{
-    if a < b { b } else { a }
 }

@@ -2,7 +2,8 @@
 use borrow.Author.Needs.{needs}
 use mir.Syntax.{w32}
 use Rattle.signed.proofs.Signed.{read}
-use Rattle.card.specs.Laws.{check-given, choose-refused}
+use Rattle.card.specs.Laws.Checks.{check-given}
+use Rattle.card.specs.Laws.Positions.{choose-refused}
 use Rattle.card.proofs.card_choose.Statement.{statement}
 use Rattle.card.proofs.card_choose.Tie as tie
 

@@ -5,7 +5,7 @@ use native.Mathlib.Omega.{arith}
 use mir.Syntax.{w32}
 use Rattle.model.specs.Limits.{counts-at}
 use Rattle.signed.proofs.Signed.{read}
-use Rattle.card.specs.Laws.{count-refused, counted, count-done-at}
+use Rattle.card.specs.Laws.Intervals.{count-refused, counted, count-done-at}
 use Rattle.card.proofs.card_interval_count.Statement.{statement}
 use Rattle.card.proofs.card_interval_count.Tie as tie
 

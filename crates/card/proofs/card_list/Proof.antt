@@ -2,7 +2,8 @@
 use borrow.Author.Needs.{needs}
 use mir.Syntax.{w32}
 use Rattle.signed.proofs.Signed.{read}
-use Rattle.card.specs.Laws.{check-given, list-refused}
+use Rattle.card.specs.Laws.Checks.{check-given}
+use Rattle.card.specs.Laws.Positions.{list-refused}
 use Rattle.card.proofs.card_list.Statement.{statement}
 use Rattle.card.proofs.card_list.Tie as tie
 

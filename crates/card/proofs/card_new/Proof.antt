@@ -1,7 +1,7 @@
 -- `card_new`: −1, −3, or the record of the device with all cells free. Assumes nothing.
 use borrow.Author.Needs.{needs}
 use Rattle.model.specs.Laws.OnRecord.{new-wrong-length, new-bad-device, new-done}
-use Rattle.card.specs.Laws.{yes, no, changes}
+use Rattle.card.specs.Laws.Answers.{yes, no, changes}
 use Rattle.card.proofs.card_new.Statement.{statement}
 use Rattle.card.proofs.card_new.Tie as tie
 

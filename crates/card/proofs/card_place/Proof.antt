@@ -2,7 +2,8 @@
 use borrow.Author.Needs.{needs}
 use mir.Syntax.{w32}
 use Rattle.signed.proofs.Signed.{read}
-use Rattle.card.specs.Laws.{changes, check-placing, fits-natural, fits-casts, place-refused, placeable, place-done}
+use Rattle.card.specs.Laws.Answers.{changes}
+use Rattle.card.specs.Laws.Place.{check-placing, fits-natural, fits-casts, place-refused, placeable, place-done}
 use Rattle.card.proofs.card_place.Statement.{statement}
 use Rattle.card.proofs.card_place.Tie as tie
 

@@ -2,7 +2,8 @@
 use borrow.Author.Needs.{needs}
 use mir.Syntax.{w32}
 use Rattle.signed.proofs.Signed.{read}
-use Rattle.card.specs.Laws.{changes, release-refused, release-passed, release-done}
+use Rattle.card.specs.Laws.Answers.{changes}
+use Rattle.card.specs.Laws.Release.{release-refused, release-passed, release-done}
 use Rattle.card.proofs.card_release.Statement.{statement}
 use Rattle.card.proofs.card_release.Tie as tie
 

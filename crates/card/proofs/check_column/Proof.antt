@@ -3,7 +3,8 @@ use borrow.Author.Needs.{needs}
 use native.Mathlib.Omega.{arith}
 use Rattle.model.specs.Limits.{columns-at}
 use Rattle.model.specs.Laws.Sound.{sound-length}
-use Rattle.card.specs.Laws.{checked, record-column, count-none, count-some}
+use Rattle.card.specs.Laws.Checks.{checked, record-column}
+use Rattle.card.specs.Laws.Intervals.{count-none, count-some}
 use Rattle.card.proofs.check_column.Statement.{statement}
 use Rattle.card.proofs.check_column.Tie as tie
 

@@ -4,7 +4,9 @@ use native.Mathlib.Omega.{arith}
 use mathlib.Core.Path.{sym, _∙_}
 use Rattle.model.specs.Laws.WriteBack.{Bytes}
 use Rattle.listing.specs.Columns.{Given}
-use Rattle.card.specs.Laws.{yes, no, fits-read, check-place, check-given, place-number, place-running, place-full, place-misfit}
+use Rattle.card.specs.Laws.Answers.{yes, no}
+use Rattle.card.specs.Laws.Checks.{check-given}
+use Rattle.card.specs.Laws.Place.{fits-read, check-place, place-number, place-running, place-full, place-misfit}
 use Rattle.card.proofs.check_place.Statement.{statement}
 use Rattle.card.proofs.check_place.Tie as tie
 

@@ -1,6 +1,7 @@
 -- `check_record`: −1, −2, or a sound record. Assumes nothing.
 use borrow.Author.Needs.{needs}
-use Rattle.card.specs.Laws.{yes, no, check-length, check-sound}
+use Rattle.card.specs.Laws.Answers.{yes, no}
+use Rattle.card.specs.Laws.Checks.{check-length, check-sound}
 use Rattle.card.proofs.check_record.Statement.{statement}
 use Rattle.card.proofs.check_record.Tie as tie
 

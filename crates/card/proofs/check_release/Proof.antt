@@ -1,7 +1,9 @@
 -- `check_release`: −1, −2, −11, or none of them. Assumes nothing.
 use borrow.Author.Needs.{needs}
 use native.Mathlib.Omega.{arith}
-use Rattle.card.specs.Laws.{yes, no, checked, record-release, release-not}
+use Rattle.card.specs.Laws.Answers.{yes, no}
+use Rattle.card.specs.Laws.Checks.{checked, record-release}
+use Rattle.card.specs.Laws.Release.{release-not}
 use Rattle.card.proofs.check_release.Statement.{statement}
 use Rattle.card.proofs.check_release.Tie as tie
 

@@ -1,7 +1,8 @@
 -- `check_task`: −1, −2, −4, −5, or none of them. Assumes nothing.
 use borrow.Author.Needs.{needs}
 use native.Mathlib.Omega.{arith}
-use Rattle.card.specs.Laws.{yes, no, checked, record-task, check-sized, check-formed}
+use Rattle.card.specs.Laws.Answers.{yes, no}
+use Rattle.card.specs.Laws.Checks.{checked, record-task, check-sized, check-formed}
 use Rattle.card.proofs.check_task.Statement.{statement}
 use Rattle.card.proofs.check_task.Tie as tie
 

@@ -1,7 +1,7 @@
 -- `choose_task`: −9, or the number of the best position. Assumes nothing.
 use borrow.Author.Needs.{needs}
 use native.Mathlib.Omega.{arith}
-use Rattle.card.specs.Laws.{choose-none, choose-few, choose-done}
+use Rattle.card.specs.Laws.Positions.{choose-none, choose-few, choose-done}
 use Rattle.card.proofs.choose_task.Statement.{statement}
 use Rattle.card.proofs.choose_task.Tie as tie
 

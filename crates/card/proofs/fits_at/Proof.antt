@@ -1,6 +1,6 @@
 -- `fits_at`: a negative bottom, or the natural number that it is cast to. Assumes nothing.
 use Rattle.signed.proofs.Signed.{unsigned}
-use Rattle.card.specs.Laws.{fits-below, fits-above}
+use Rattle.card.specs.Laws.Place.{fits-below, fits-above}
 use Rattle.card.proofs.fits_at.Statement.{statement}
 use Rattle.card.proofs.fits_at.Tie as tie
 

@@ -2,7 +2,7 @@
 use native.Mathlib.Omega.{arith}
 use Rattle.model.specs.Limits.{running-at}
 use Rattle.model.specs.Laws.Sound.{sound-length}
-use Rattle.card.specs.Laws.{full-said}
+use Rattle.card.specs.Laws.Answers.{full-said}
 use Rattle.card.proofs.full.Statement.{statement}
 use Rattle.card.proofs.full.Tie as tie
 

@@ -1,7 +1,7 @@
 -- `intervals`: empty, or the part of the column. Assumes nothing.
 use borrow.Author.Needs.{needs}
 use native.Mathlib.Omega.{arith}
-use Rattle.card.specs.Laws.{count-refused, counted, view-part}
+use Rattle.card.specs.Laws.Intervals.{count-refused, counted, view-part}
 use Rattle.card.proofs.intervals.Statement.{statement}
 use Rattle.card.proofs.intervals.Tie as tie
 

@@ -1,7 +1,7 @@
 -- `list_task`: −6, −9, or the ranges and their number. Assumes nothing.
 use borrow.Author.Needs.{needs}
 use native.Mathlib.Omega.{arith}
-use Rattle.card.specs.Laws.{list-short, list-none, list-fits, list-done}
+use Rattle.card.specs.Laws.Positions.{list-short, list-none, list-fits, list-done}
 use Rattle.card.proofs.list_task.Statement.{statement}
 use Rattle.card.proofs.list_task.Tie as tie
 

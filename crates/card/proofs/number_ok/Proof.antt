@@ -1,5 +1,5 @@
 -- `number_ok`: 0, or the test of the upper limit. Assumes nothing.
-use Rattle.card.specs.Laws.{number-zero, number-some}
+use Rattle.card.specs.Laws.Answers.{number-zero, number-some}
 use Rattle.card.proofs.number_ok.Statement.{statement}
 use Rattle.card.proofs.number_ok.Tie as tie
 

@@ -1,6 +1,6 @@
 -- `runs`: what the search found. Assumes nothing.
 use borrow.Author.Needs.{needs}
-use Rattle.card.specs.Laws.{found-some, found-none}
+use Rattle.card.specs.Laws.Answers.{found-some, found-none}
 use Rattle.card.proofs.runs.Statement.{statement}
 use Rattle.card.proofs.runs.Tie as tie
 

@@ -2,24 +2,22 @@
 use Prim.Native.Nat.{ℕ, suc, _+_, _-_, _*_, _/_, _≤_, _<_}
 use mathlib.Core.Path.{_≡_, refl, ap}
 use mathlib.Core.Logic.{_⊎_, inl, inr}
-use mathlib.Core.Bool.{Bool, true, false, not, cond}
+use mathlib.Core.Bool.{Bool, true, false, cond}
 use mathlib.Core.List.{List}
 use native.Mathlib.Nat.{mul-le-mul, mul-le-mul-right, lt-of-mul-lt-mul-right, mul-div-le}
 use native.Mathlib.Omega.{arith}
-use lib.Dec.{ltb, eqb}
+use lib.Dec.{ltb}
 use borrow.Author.Tests.{lt-ltb, le-ltb}
 use Rattle.runs.specs.Laws.Tests.{lt-or-ge}
 use Rattle.runs.specs.Runs.{Steps}
 use Rattle.runs.specs.declared.Range.{Range}
 use Rattle.model.specs.Limits.{max-rows}
-use Rattle.model.specs.Bounded.{any-below}
-use Rattle.model.specs.Columns.{Device, kind-C}
-use Rattle.model.specs.Tasks.{blocks, block, well-formed, step}
+use Rattle.model.specs.Columns.{Device}
+use Rattle.model.specs.Tasks.{blocks, well-formed, step}
 use Rattle.model.specs.Book.{Book, placed, fits, intervals}
 use Rattle.model.specs.Choice.{Judge, judge, Found, at, better, see, climb}
 use Rattle.model.specs.Record.{device-of, book-of}
 use Rattle.model.specs.Laws.Bounded.{clash, is-false}
-use Rattle.model.specs.Laws.Tasks.{sized-to}
 use Rattle.model.specs.Laws.Fits.{fits-below}
 use Rattle.model.specs.Laws.Steps.{fits-steps, step-two}
 use Rattle.model.specs.Laws.Limits.{limits-to}
@@ -28,6 +26,8 @@ use Rattle.model.specs.Laws.Raised.{Room}
 use Rattle.model.specs.Laws.Climb.{climb-none}
 use Rattle.model.specs.Laws.Ends.{raised-steps, choose-step}
 use Rattle.listing.specs.Columns.{Given}
+use Rattle.listing.specs.Laws.Blocks.{step-ten}
+use Rattle.listing.specs.Laws.Column.{some-blocks}
 use Rattle.choice.specs.Choosing.{max-pieces, max-stretch, Scored, Small, Is, better-of, Rises, Climbed, FitsRange}
 use Rattle.choice.specs.declared.Score.{Score}
 use Rattle.choice.specs.declared.Best.{Best}
@@ -72,17 +72,8 @@ rise-some room step l g =
     record { steps = (room - 1) / step; is = omega arith; inside = inr (omega arith); small = omega arith }
 
 -- a step is not 0, nor above 10
-step-small : (t : List ℕ) → (1 ≤ step t) × (step t ≤ 10)
-unfolding step
-step-small t = go (any-below (blocks t) (λ i. eqb (block t i .kind) kind-C)) (any-below (blocks t) (λ i. not (eqb (block t i .kind) kind-C)))
-  where
-    go : (u v : Bool) → (1 ≤ cond u (cond v 10 2) 5) × (cond u (cond v 10 2) 5 ≤ 10)
-    go true true = omega arith
-    go true false = omega arith
-    go false v = omega arith
-
 pub range-step : {d : Device} {b : Book} {t : List ℕ} {p : ℕ} {R : Range} → FitsRange d b t p R → (1 ≤ R .step) × (R .step ≤ 10)
-range-step {t = t} g = rw (g .step-is) (step-small t)
+range-step {t = t} g = omega (arith, g .step-is, step-two t, step-ten t)
 
 -- so a rise is not 0
 pub rise-pos : {room step v : ℕ} → Rises room step v → 1 ≤ step → 1 ≤ v
@@ -91,7 +82,7 @@ rise-pos r l = omega (arith, r .is)
 -- a bottom at which the task fits is below 256
 pub bottom-small : (r t : List ℕ) → Given r t → (p y : ℕ) → fits (device-of r) (book-of r) t p y ≡ true → y < 2 * max-rows
 bottom-small r t a p y f =
-    let on = fits-below (device-of r) (book-of r) t p y (a .formed) (sized-to t (a .sized) .some-blocks) f in
+    let on = fits-below (device-of r) (book-of r) t p y (a .formed) (some-blocks r t a) f in
     omega (arith, limits-to (device-of r) (book-of r) (sound-within r (a .sound)) .rows)
 
 -- ---- one range

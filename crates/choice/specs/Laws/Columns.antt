@@ -11,6 +11,7 @@ use lib.Seq.{getD-take}
 use Rattle.runs.specs.Laws.Tests.{lt-or-ge}
 use Rattle.runs.specs.Runs.{Run, run, Mem, Lists}
 use Rattle.runs.specs.Laws.Runs.{runs-lists}
+use Rattle.runs.specs.Laws.Places.{run-named, run-at, none-before, none-between, next-above, start-past}
 use Rattle.model.specs.Limits.{max-columns, columns-at}
 use Rattle.model.specs.Columns.{Device, columns, half-rows}
 use Rattle.model.specs.Tasks.{blocks, well-formed, step}
@@ -19,7 +20,6 @@ use Rattle.model.specs.Choice.{judge, nothing, at, climb, choice, chosen}
 use Rattle.model.specs.Record.{device-of, book-of}
 use Rattle.model.specs.Calls.{no-position}
 use Rattle.model.specs.Laws.Bounded.{clash, is-false}
-use Rattle.model.specs.Laws.Tasks.{sized-to}
 use Rattle.model.specs.Laws.Fits.{fits-below}
 use Rattle.model.specs.Laws.Steps.{fits-steps, step-two}
 use Rattle.model.specs.Laws.Limits.{limits-to}
@@ -28,10 +28,10 @@ use Rattle.model.specs.Laws.Climb.{climb-none}
 use Rattle.model.specs.Laws.Ends.{chosen-at}
 use Rattle.model.specs.Laws.NoPosition.{chosen-nothing-iff}
 use Rattle.listing.specs.Arrays.{Room}
-use Rattle.listing.specs.Columns.{Given, Ranged}
+use Rattle.listing.specs.Columns.{Given, ranges-in, Ranged}
+use Rattle.listing.specs.Laws.Column.{some-columns, few-columns, some-blocks}
 use Rattle.listing.specs.Laws.Arrays.{length-read, getD-read}
-use Rattle.choice.specs.Choosing.{Small, Is, Climbed, FitsRange, ranges-in, RangesAre, Chooses}
-use Rattle.choice.specs.Laws.Ranges.{run-named, run-at, none-before, none-between, next-above, start-past}
+use Rattle.choice.specs.Choosing.{Small, Is, Climbed, FitsRange, RangesAre, Chooses}
 use Rattle.choice.specs.declared.Best.{Best}
 use Rattle.choice.specs.declared.Best.the-variants.{Nothing, At}
 
@@ -161,11 +161,7 @@ module _ (d : Device) (b : Book) (t : List ℕ) where
 
 -- the column count that a sound record says is the device's, and not 0
 pub column-count : (r t : List ℕ) → Given r t → (n : ℕ) → n ≡ getD r columns-at 0 → (n ≡ columns (device-of r)) × (1 ≤ n) × (n ≤ max-columns)
-column-count r t a n e =
-    let m = limits-to (device-of r) (book-of r) (sound-within r (a .sound)) in
-    let one = m .columns-one in
-    let most = m .columns in
-    omega (arith, columns-said r)
+column-count r t a n e = omega (arith, columns-said r, some-columns r (a .sound), few-columns r (a .sound))
 
 -- THEOREM: what is found in all columns is the choice
 pub chooses : (r t : List ℕ) → Given r t → (p : ℕ) (e : Best) → columns (device-of r) ≤ p → Best-of (device-of r) (book-of r) t p e → Chooses (device-of r) (book-of r) t e
@@ -179,7 +175,7 @@ chooses r t a p e l h = let q : p ≡ columns (device-of r) = omega (arith, h .w
     b = book-of r
 
     n : 1 ≤ blocks t
-    n = sized-to t (a .sized) .some-blocks
+    n = some-blocks r t a
 
     nowhere : (chosen d b t ≡ nothing) → no-position d b t ≡ true
     nowhere = chosen-nothing-iff d b t (a .formed) n .0

@@ -1,33 +1,29 @@
 -- Where a block of a task that fits stands, and its home, from the bytes of a sound record. Assumes nothing.
-use Prim.Native.Nat.{ℕ, suc, _+_, _-_, _*_, _≤_, _<_}
-use mathlib.Core.Path.{_≡_, refl, sym, ap, ap₂, _∙_}
+use Prim.Native.Nat.{ℕ, _+_, _-_, _*_, _≤_, _<_}
+use mathlib.Core.Path.{_≡_, ap, _∙_}
 use mathlib.Core.Bool.{true}
-use mathlib.Core.List.{List, [], _∷_}
+use mathlib.Core.List.{List}
 use native.Mathlib.Omega.{arith}
-use native.Mathlib.Nat.{add-assoc}
-use lib.ListN.{length, getD, take, drop}
 use Rattle.runs.specs.Intervals.{Interval, interval, Holds}
-use Rattle.model.specs.Limits.{max-rows, max-columns, reach, column-size, interval-size}
+use Rattle.model.specs.Limits.{max-rows, max-columns, reach}
 use Rattle.model.specs.Columns.{Device, columns, top}
-use Rattle.model.specs.Tasks.{word, blocks, block}
+use Rattle.model.specs.Tasks.{blocks, block}
 use Rattle.model.specs.Book.{Book, placed, fits, intervals}
 use Rattle.model.specs.Choice.{holder, home}
-use Rattle.model.specs.Record.{part, column-at, device-of, book-of, listed-intervals}
+use Rattle.model.specs.Record.{device-of, book-of}
 use Rattle.model.specs.Sound.{count-of, sound}
 use Rattle.model.specs.Laws.Columns.{top-le}
 use Rattle.model.specs.Laws.Tasks.{full-block}
 use Rattle.model.specs.Laws.Fits.{fits-to}
 use Rattle.model.specs.Laws.Limits.{Limits, limits-to}
 use Rattle.model.specs.Laws.Cells.{interval-ends}
-use Rattle.model.specs.Laws.Parts.{length-part, getD-list}
-use Rattle.model.specs.Laws.ColumnPart.{word-part}
 use Rattle.model.specs.Laws.Clauses.{clauses-to}
-use Rattle.model.specs.Laws.WriteBack.{count-listed}
 use Rattle.model.specs.Laws.Sound.{sound-within, listed-said}
 use Rattle.model.specs.Laws.Homes.{found}
 use Rattle.model.specs.Laws.Ends.{column-free, fits-held}
-use Rattle.column.specs.Part.{interval-at, listed-from, listed-in, Part, holding}
-use Rattle.column.specs.Laws.{holding-holder}
+use Rattle.column.specs.Part.{listed-in, Part, holding}
+use Rattle.column.specs.Laws.Lent.{lent, lent-is, listed-lent}
+use Rattle.column.specs.Laws.Holding.{holding-holder}
 use Rattle.column.specs.declared.Interval.{Interval as Read}
 use Rattle.column.specs.declared.Held.{Held}
 use Rattle.column.specs.declared.Held.the-variants.{In as Inside, Nowhere}
@@ -36,46 +32,21 @@ use Rattle.task.specs.Blocks.{Same}
 use Rattle.listing.specs.Columns.{Given}
 use Rattle.choice.specs.Choosing.{Seated}
 
--- ---- the intervals that a column's part lists
-
-listed-is : (p : List ℕ) (is : List Interval) (d : Interval) (i : ℕ) → ((j : ℕ) → j < length is → interval-at p (i + j) ≡ getD is j d) → listed-from p i (length is) ≡ is
-listed-is p [] d i h = refl
-listed-is p (x ∷ is) d i h =
-    let e : i + 0 ≡ i = omega arith in
-    ap₂ (λ (y : Interval) (l : List Interval). y ∷ l) (rw e at (h 0 (omega arith)))
-    (listed-is p is d (suc i) (λ j q. let f : i + suc j ≡ suc i + j = omega arith in rw f at (h (suc j) (omega arith))))
+-- ---- the search of a column's part
 
 module _ (r : List ℕ) (s : sound r ≡ true) (c : ℕ) (q : c < max-columns) where
-  -- a column's part lists the free intervals
-  listed-part : listed-in (part r (column-at c) column-size) (count-of r c) ≡ intervals (device-of r) (book-of r) c
-  unfolding listed-in interval-at listed-intervals
-  listed-part =
-      let few = clauses-to r s .few-intervals c q in
-      let n = count-listed r c in
-      (rw n at (listed-is (part r (column-at c) column-size) (listed-intervals r c) (interval 0 0) 0 (λ j l.
-      let k : 0 + j ≡ j = omega arith in
-      rw (k, word-part r (column-at c) column-size (interval-size * j) (omega arith), word-part r (column-at c) column-size (interval-size * j + 2) (omega arith), ← add-assoc)
-      (sym (getD-list (λ i. interval (word r (column-at c + interval-size * i)) (word r (column-at c + interval-size * i + 2))) (count-of r c) j (interval 0 0) (omega arith))))))
-      ∙ listed-said r (clauses-to r s) c q
-
-  -- the part, as it is lent
-  lent : take (column-at c + column-size - column-at c) (drop (column-at c) r) ≡ part r (column-at c) column-size
-  unfolding part
-  lent = let e : column-at c + column-size - column-at c ≡ column-size = omega arith in rw e
-
   module _ (count : ℕ) (m : count ≡ count-of r c) where
     -- what `holder` asks of it
-    pub part-lent : Part (take (column-at c + column-size - column-at c) (drop (column-at c) r)) count
-    part-lent =
-        let x = clauses-to r s in
-        let size = x .size in
-        rw lent (record { size = length-part r (column-at c) column-size (omega arith); few = omega (arith, x .few-intervals c q) })
+    pub part-lent : Part (lent r c) count
+    part-lent = let x = clauses-to r s in rw m (lent-is r c (x .size) q (x .few-intervals c q))
 
     -- what it answers for a block that stands in one of the free intervals
     module _ (b t : ℕ) (h : Held) (l : b < t) (g : Holds b t (intervals (device-of r) (book-of r) c))
-        (a : h ≡ holding b t (listed-in (take (column-at c + column-size - column-at c) (drop (column-at c) r)) count)) where
+        (a : h ≡ holding b t (listed-in (lent r c) count)) where
       found-home : h ≡ Inside (record { bottom = holder (intervals (device-of r) (book-of r) c) b .bottom; top = holder (intervals (device-of r) (book-of r) c) b .top })
-      found-home = a ∙ rw (lent, m, listed-part) (holding-holder b t 0 (intervals (device-of r) (book-of r) c) l (column-free (device-of r) (book-of r) c .canon) g)
+      found-home =
+          let x = clauses-to r s in
+          a ∙ rw (m, listed-lent r c (x .size) q (x .few-intervals c q), listed-said r x c q) (holding-holder b t 0 (intervals (device-of r) (book-of r) c) l (column-free (device-of r) (book-of r) c .canon) g)
 
       pub home-is : (i : Read) → h ≡ Inside i → interval (i .bottom) (i .top) ≡ holder (intervals (device-of r) (book-of r) c) b
       home-is i k =

@@ -1,6 +1,6 @@
 -- `column::absorb` meets its contract, in each of its three cases. Assumes nothing.
 use borrow.Author.Needs.{needs}
-use Rattle.column.proofs.Laws.{absorbed-below, absorbed-above, absorbed-met}
+use Rattle.column.specs.Laws.Writing.{absorbed-below, absorbed-above, absorbed-met}
 use Rattle.column.proofs.absorb.Statement.{statement}
 use Rattle.column.proofs.absorb.Tie as tie
 

@@ -1,6 +1,6 @@
 -- `column::cut` meets its contract, by `cut_into` and the copy. Assumes nothing.
 use borrow.Author.Needs.{needs}
-use Rattle.column.proofs.Laws.{zeros, copied}
+use Rattle.column.specs.Laws.Writing.{zeros, copied}
 use Rattle.column.proofs.cut.Statement.{statement}
 use Rattle.column.proofs.cut.Tie as tie
 

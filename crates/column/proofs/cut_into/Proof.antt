@@ -8,7 +8,7 @@ use lib.ListN.{length}
 use Rattle.runs.specs.Intervals.{subtract}
 use Rattle.model.specs.Laws.Record.{length-column}
 use Rattle.column.specs.Part.{listed-from, listed-in}
-use Rattle.column.proofs.Laws.{Writing, on, size, cut-start, cut-next, cut-end, keep-room}
+use Rattle.column.specs.Laws.Writing.{Writing, on, size, cut-start, cut-next, cut-end, keep-room}
 use Rattle.column.proofs.cut_into.Statement.{statement}
 use Rattle.column.proofs.cut_into.Tie as tie
 

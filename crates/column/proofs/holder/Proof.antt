@@ -6,7 +6,8 @@ use native.Mathlib.Omega.{arith}
 use Rattle.runs.specs.Laws.Tests.{tests}
 use borrow.Author.Needs.{needs}
 use Rattle.column.specs.Part.{listed-from, listed-in, holding}
-use Rattle.column.proofs.Laws.{held, passed, none-held, listed-all}
+use Rattle.column.specs.Laws.Holding.{held, passed, none-held}
+use Rattle.column.specs.Laws.Reading.{listed-all}
 use Rattle.column.proofs.holder.Statement.{statement}
 use Rattle.column.proofs.holder.Tie as tie
 

@@ -1,6 +1,6 @@
 -- `column::join` meets its contract, by `join_into` and the copy. Assumes nothing.
 use borrow.Author.Needs.{needs}
-use Rattle.column.proofs.Laws.{zeros, copied}
+use Rattle.column.specs.Laws.Writing.{zeros, copied}
 use Rattle.column.proofs.join.Statement.{statement}
 use Rattle.column.proofs.join.Tie as tie
 

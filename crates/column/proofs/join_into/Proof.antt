@@ -9,7 +9,7 @@ use Rattle.runs.specs.Intervals.{unite}
 use Rattle.model.specs.Limits.{words}
 use Rattle.model.specs.Laws.Record.{length-column}
 use Rattle.column.specs.Part.{listed-from, listed-in, merged}
-use Rattle.column.proofs.Laws.{Writing, size, join-start, join-next, join-room, join-end}
+use Rattle.column.specs.Laws.Writing.{Writing, size, join-start, join-next, join-room, join-end}
 use Rattle.column.proofs.join_into.Statement.{statement}
 use Rattle.column.proofs.join_into.Tie as tie
 

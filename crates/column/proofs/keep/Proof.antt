@@ -1,7 +1,7 @@
 -- `column::keep` meets its contract, by `push` where the interval is not empty. Assumes nothing.
 use native.Mathlib.Omega.{arith}
 use borrow.Author.Needs.{needs}
-use Rattle.column.proofs.Laws.{wrote-piece, wrote-none}
+use Rattle.column.specs.Laws.Writing.{wrote-piece, wrote-none}
 use Rattle.column.proofs.keep.Statement.{statement}
 use Rattle.column.proofs.keep.Tie as tie
 

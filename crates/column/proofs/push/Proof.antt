@@ -1,6 +1,6 @@
 -- `column::push` meets its contract: the two numbers are one interval behind those that are there. Assumes nothing.
 use borrow.Author.Needs.{needs}
-use Rattle.column.proofs.Laws.{wrote-one}
+use Rattle.column.specs.Laws.Writing.{wrote-one}
 use Rattle.column.proofs.push.Statement.{statement}
 use Rattle.column.proofs.push.Tie as tie
 

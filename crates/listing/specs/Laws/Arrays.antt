@@ -1,10 +1,10 @@
 -- The laws of lists of runs in two arrays. Assumes nothing.
-use Prim.Native.Nat.{ℕ, zero, suc, _+_, _-_, _*_, _/_, _%_, _≤_, _<_}
+use Prim.Native.Nat.{ℕ, zero, suc, _+_, _-_, _*_, _≤_, _<_}
 use mathlib.Core.Path.{_≡_, refl, sym, ap, subst, _∙_}
 use mathlib.Core.Logic.{_⊎_, inl, inr}
 use mathlib.Core.List.{List, [], _∷_, _++_, map, append-assoc}
 use native.Mathlib.Omega.{arith}
-use native.Mathlib.Nat.{mul-le-mul-left, div-add-mod'}
+use native.Mathlib.Nat.{mul-le-mul-left}
 use native.Mathlib.Numerals.{add-one}
 use lib.ListN.{length, getD, set, drop, length-append, length-set, List·getD-append}
 use lib.Seq.{getD-set-same, getD-set-other, drop-cons, getD-append-add}
@@ -12,14 +12,14 @@ use mathlib.Core.Bool.{Bool, true, false}
 use lib.Dec.{eqb}
 use borrow.Author.Tests.{eqb-true, eqb-false}
 use Rattle.runs.specs.Laws.Tests.{lt-or-ge}
-use Rattle.runs.specs.Intervals.{Multiple}
-use Rattle.runs.specs.Meet.{Step, Proper, Lcm, Both-of, Meets}
+use Rattle.runs.specs.Meet.{Step, Proper, Both-of, Meets}
 use Rattle.runs.specs.declared.Range.{Range}
 use Rattle.runs.specs.declared.Met.{Met}
 use Rattle.runs.specs.declared.Met.the-variants.{Empty, Both}
-use Rattle.runs.specs.Runs.{Run, run, Steps, Mem, From, Canon, push}
+use Rattle.runs.specs.Runs.{Run, run, Steps, In, Mem, From, Canon, push}
 use Rattle.runs.specs.Laws.Streaming.{push-join, push-apart}
-use Rattle.runs.specs.Laws.Both.{count-above, from-least}
+use Rattle.runs.specs.Laws.Canon.{count-above, from-least}
+use Rattle.runs.specs.Laws.Places.{run-at, run-named}
 use Rattle.model.specs.Limits.{max-rows}
 use Rattle.model.specs.Laws.Bounded.{map-append}
 use Rattle.listing.specs.Bottoms.{lift, lowered}
@@ -94,44 +94,16 @@ drop-all zero (x ∷ L) h = absurd (omega arith)
 drop-all (suc n) [] h = refl
 drop-all (suc n) (x ∷ L) h = drop-all n L (omega arith)
 
--- the ends of each run are named
-mem-later : (s y : ℕ) (K L : List Run) → Mem s y L → Mem s y (K ++ L)
-mem-later s y [] L h = h
-mem-later s y (r ∷ K) L h = inr (mem-later s y K L h)
+-- run i ends some steps above its first number, and both ends are named
+module _ (s m n i : ℕ) (F T : List ℕ) (c : From s m (read n F T)) (l : i < n) where
+  pub steps-at : Steps s (getD F i 0) (getD T i 0)
+  steps-at = rw (getD-read n i F T (run 0 0) l) at (run-at s m (read n F T) i (run 0 0) c (omega (arith, length-read n F T)) .1)
 
-mem-sooner : (s y : ℕ) (K L : List Run) → Mem s y K → Mem s y (K ++ L)
-mem-sooner s y [] L h = absurd h
-mem-sooner s y (r ∷ K) L (inl h) = inl h
-mem-sooner s y (r ∷ K) L (inr h) = inr (mem-sooner s y K L h)
+  named-at : (y : ℕ) → In s y (run (getD F i 0) (getD T i 0)) → Mem s y (read n F T)
+  named-at y h = run-named s (read n F T) i (run 0 0) y (omega (arith, length-read n F T)) (rw (getD-read n i F T (run 0 0) l) h)
 
-from-sooner : (s m : ℕ) (K L : List Run) → From s m (K ++ L) → From s m K
-from-sooner s m [] L c = tt
-from-sooner s m (r ∷ K) L (a, b, c) = (a, b, from-sooner s (r .last + 2 * s) K L c)
-
-from-last : (s m : ℕ) (K : List Run) (r : Run) → From s m (K ++ (r ∷ [])) → Steps s (r .first) (r .last)
-from-last s m [] r c = c .1
-from-last s m (q ∷ K) r c = from-last s (q .last + 2 * s) K r (c .2)
-
-pub steps-at : (s m n i : ℕ) (F T : List ℕ) → From s m (read n F T) → i < n → Steps s (getD F i 0) (getD T i 0)
-unfolding read
-steps-at s m zero i F T c l = absurd (omega arith)
-steps-at s m (suc n) i F T c l = go (lt-or-ge i n) (steps-at s m n i F T (from-sooner s m (read n F T) _ c))
-  where
-    go : (i < n) ⊎ (n ≤ i) → (i < n → Steps s (getD F i 0) (getD T i 0)) → Steps s (getD F i 0) (getD T i 0)
-    go (inl k) rest = rest k
-    go (inr k) rest = let e : i ≡ n = omega arith in rw e (from-last s m (read n F T) (run (getD F n 0) (getD T n 0)) c)
-
-pub ends-named : (s m n i : ℕ) (F T : List ℕ) → From s m (read n F T) → i < n → Mem s (getD F i 0) (read n F T) × Mem s (getD T i 0) (read n F T)
-unfolding read
-ends-named s m zero i F T c l = absurd (omega arith)
-ends-named s m (suc n) i F T c l = go (lt-or-ge i n) (ends-named s m n i F T (from-sooner s m (read n F T) _ c))
-  where
-    go : (i < n) ⊎ (n ≤ i) → (i < n → Mem s (getD F i 0) (read n F T) × Mem s (getD T i 0) (read n F T)) → Mem s (getD F i 0) (read (suc n) F T) × Mem s (getD T i 0) (read (suc n) F T)
-    go (inl k) rest = let (a, b) = rest k in (mem-sooner s (getD F i 0) (read n F T) _ a, mem-sooner s (getD T i 0) (read n F T) _ b)
-    go (inr k) rest =
-        let e : n ≡ i = omega arith in
-        let (j, u) = from-last s m (read n F T) (run (getD F n 0) (getD T n 0)) c in
-        rw (← e) (mem-later s (getD F n 0) (read n F T) _ (inl ((0, omega arith), omega arith)), mem-later s (getD T n 0) (read n F T) _ (inl ((j, u), omega arith)))
+  pub ends-named : Mem s (getD F i 0) (read n F T) × Mem s (getD T i 0) (read n F T)
+  ends-named = let k = steps-at in (named-at (getD F i 0) ((0, omega arith), omega arith), named-at (getD T i 0) (k, omega arith))
 
 -- ---- how many
 
@@ -222,23 +194,7 @@ joined-empty a b m O e h = inl (met-is a b m Empty e h, refl)
 pub met-both : (a b : Range) (m : Met) (r : Range) → m ≡ Both r → Meets a b m → Both-of a b r
 met-both a b m r e h = met-is a b m (Both r) e h
 
--- ---- the least common multiple, as the step of what is named at 0
-
--- a is a multiple of b
-lcm-left : (a b : ℕ) → Step a → Step b → Multiple b a → Lcm a b a
-lcm-left a b p q m = record {
-  pos = p .0;
-  small = omega (arith, mul-le-mul-left {m = 1} {n = b} a (q .0));
-  left = (1, omega arith);
-  right = m;
-  least = λ x h k. h;
-}
-
-pub lcm-same : (a b : ℕ) → Step a → Step b → a ≡ b → Lcm a b a
-lcm-same a b p q e = lcm-left a b p q (1, omega arith)
-
-pub lcm-divides : (a b : ℕ) → Step a → Step b → a % b ≡ 0 → Lcm a b a
-lcm-divides a b p q e = lcm-left a b p q (a / b, omega (arith, div-add-mod' a b))
+-- ---- the least common multiple, as the step of what two ranges name at 0
 
 proper-zero : (s : ℕ) → Step s → Proper (record { first = 0; last = 0; step = s })
 proper-zero s p = record { step = p; last = (0, omega arith); bound = omega arith }

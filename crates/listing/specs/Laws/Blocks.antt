@@ -1,20 +1,22 @@
 -- The bottoms of the first blocks of a task: none met, one block more, and all. At the end they are, lowered again, the model's ranges. Assumes nothing.
-use Prim.Native.Nat.{ℕ, zero, suc, _+_, _-_, _*_, _/_, _≤_, _<_, max}
-use mathlib.Core.Path.{_≡_, refl, sym, ap, _∙_}
+use Prim.Native.Nat.{ℕ, suc, _+_, _-_, _*_, _/_, _≤_, _<_, max}
+use mathlib.Core.Path.{_≡_, refl, sym, ap}
 use mathlib.Core.Logic.{_⊎_, inl, inr}
 use mathlib.Core.Bool.{Bool, true, false, not, cond}
 use mathlib.Core.List.{List, [], _∷_, map}
-use native.Mathlib.Nat.{mul-assoc, mul-le-mul-right, div-add-mod', mod-lt}
+use native.Mathlib.Nat.{mul-assoc, mul-comm, mul-le-mul-right, div-add-mod', mod-lt}
 use native.Mathlib.Omega.{arith}
 use lib.Dec.{eqb}
 use borrow.Author.Tests.{not-true}
 use Rattle.runs.specs.Laws.Tests.{lt-or-ge}
-use Rattle.runs.specs.Runs.{Run, run, Steps, In, Mem, From, Lists, runs}
+use Rattle.runs.specs.Runs.{Run, run, In, Mem, From, Lists, runs}
 use Rattle.runs.specs.Laws.Runs.{lists-runs}
 use Rattle.runs.specs.Intervals.{Apart, Multiple, OnGrid}
 use Rattle.runs.specs.Laws.Intervals.{intervals-free}
 use Rattle.runs.specs.Meet.{Lcm}
-use Rattle.runs.specs.Laws.Both.{from-weaken, from-least, Spaced, Meeting}
+use Rattle.runs.specs.Laws.Steps.{multiple-mod, multiple-times, multiple-le, multiple-sub, multiple-steps}
+use Rattle.runs.specs.Laws.Canon.{from-weaken, from-least}
+use Rattle.runs.specs.Laws.Both.{Spaced, Meeting}
 use Rattle.model.specs.Limits.{reach, max-rows}
 use Rattle.model.specs.Bounded.{any-below}
 use Rattle.model.specs.Columns.{Device, half-rows, height, kind-C, columns, kind}
@@ -29,7 +31,7 @@ use Rattle.model.specs.Laws.Steps.{fits-steps, step-two}
 use Rattle.model.specs.Laws.Limits.{limits-to}
 use Rattle.model.specs.Laws.Cells.{intervals-grid}
 use Rattle.listing.specs.Bottoms.{lift, lowered, bottoms, Stand, Common, Standing}
-use Rattle.listing.specs.Laws.Bottoms.{multiple-sub, multiple-mod, bottoms-to, bottoms-of, whole-cells, fits-stood, stood-fits}
+use Rattle.listing.specs.Laws.Bottoms.{bottoms-to, bottoms-of, whole-cells, fits-stood, stood-fits}
 
 -- ---- the intervals of a column
 
@@ -41,13 +43,6 @@ pub column-grid : (d : Device) (b : Book) (c : ℕ) → within d b ≡ true → 
 column-grid d b c w = intervals-grid d b w c
 
 -- ---- the least common multiple of the heights of the first blocks
-
-multiple-times : (h l x : ℕ) → Multiple h l → Multiple l x → Multiple h x
-multiple-times h l x (i, u) (j, v) = (j * i, v ∙ ap (λ (w : ℕ). j * w) u ∙ sym (mul-assoc j i h))
-
-multiple-le : (h x : ℕ) → 1 ≤ x → Multiple h x → h ≤ x
-multiple-le h x l (zero, e) = absurd (omega arith)
-multiple-le h x l (suc k, e) = omega arith
 
 module _ (t : List ℕ) where
   pub common-unique : (m s l : ℕ) → Common t m s → Common t m l → s ≡ l
@@ -123,10 +118,6 @@ module _ (t : List ℕ) where
   common-le m s n l c = let e = common-step n in multiple-le s (step t) (e .pos) (c .least (step t) (λ i g. e .all i (omega arith)))
 
 -- ---- lists of lifted bottoms
-
-multiple-steps : (s x y : ℕ) → x < y → Multiple s (y - x) → Steps s (x + s) y
-multiple-steps s x y l (zero, e) = absurd (omega arith)
-multiple-steps s x y l (suc k, e) = (k, omega arith)
 
 -- the multiples of h from a on that are no more than n above it
 grid-in : (h a n : ℕ) → 1 ≤ h → (y : ℕ) → a ≤ y → y ≤ a + n → Multiple h (y - a) → In h y (run a (a + n / h * h))

@@ -1,25 +1,26 @@
 -- The bottoms of one block: a block fits just where an interval of its column holds it and it stands on its grid; so its list of ranges, made from the
 -- column's intervals, is canonical and names exactly the bottoms at which it fits. Assumes nothing.
-use Prim.Native.Nat.{ℕ, zero, suc, _+_, _-_, _*_, _/_, _%_, _≤_, _<_}
-use mathlib.Core.Path.{_≡_, refl, ap, _∙_}
-use mathlib.Core.Logic.{_⊎_, inl, inr, _↔_}
+use Prim.Native.Nat.{ℕ, suc, _+_, _-_, _*_, _≤_, _<_}
+use mathlib.Core.Path.{_≡_, refl}
+use mathlib.Core.Logic.{inl, inr}
 use mathlib.Core.Bool.{true}
 use mathlib.Core.List.{List, [], _∷_}
-use native.Mathlib.Nat.{mul-le-mul-right, lt-of-mul-lt-mul-right, div-add-mod', mul-mod-left}
 use native.Mathlib.Omega.{arith}
 use lib.Dec.{ltb}
 use borrow.Author.Tests.{lt-ltb, le-ltb}
-use Rattle.runs.specs.Laws.Tests.{tests, cond-ind, lt-or-ge}
-use Rattle.runs.specs.Runs.{Steps, In, Mem, From}
+use Rattle.runs.specs.Laws.Tests.{tests, cond-ind}
+use Rattle.runs.specs.Runs.{In, Mem, From}
 use Rattle.runs.specs.Intervals.{Interval, Apart, Holds, Multiple, OnGrid}
-use Rattle.runs.specs.Laws.Intervals.{holds-of, holds-free, intervals-free}
-use Rattle.runs.specs.Laws.Both.{from-weaken, Spaced}
+use Rattle.runs.specs.Laws.Steps.{multiple-mod, mod-multiple, multiple-gap, multiple-sub, multiple-steps}
+use Rattle.runs.specs.Laws.Canon.{from-weaken}
+use Rattle.runs.specs.Laws.Both.{Spaced}
 use Rattle.model.specs.Limits.{reach}
 use Rattle.model.specs.Columns.{Device, height, columns, kind, top}
 use Rattle.model.specs.Tasks.{Block}
-use Rattle.model.specs.Book.{Book, free, block-fits, intervals}
+use Rattle.model.specs.Book.{Book, block-fits, intervals}
 use Rattle.model.specs.Laws.Fits.{fitting-to, fitting-of}
 use Rattle.model.specs.Laws.Tasks.{Solid}
+use Rattle.model.specs.Laws.Ends.{fits-held, held-fits}
 use Rattle.listing.specs.Bottoms.{lift, bottoms-in, bottoms}
 
 -- ---- the list of ranges, one interval after the other
@@ -35,18 +36,6 @@ bottoms-short low high i L h = rw (lt-ltb (i .top - i .bottom) (high - low) h)
 pub bottoms-tall : (low high : ℕ) (i : Interval) (L : List Interval) → high - low ≤ i .top - i .bottom → bottoms low high (i ∷ L) ≡ bottoms-in low high i ∷ bottoms low high L
 unfolding bottoms
 bottoms-tall low high i L h = rw (le-ltb (i .top - i .bottom) (high - low) h)
-
--- a difference of multiples
-pub multiple-sub : (h a b : ℕ) → Multiple h a → Multiple h b → b ≤ a → Multiple h (a - b)
-multiple-sub h a b (i, u) (j, v) l = go (lt-or-ge i j)
-  where
-    go : (i < j) ⊎ (j ≤ i) → Multiple h (a - b)
-    go (inl k) = (0, omega (arith, mul-le-mul-right {m = i} {n = j} h (omega arith)))
-    go (inr k) = let e : i * h ≡ (j + (i - j)) * h = ap (λ (w : ℕ). w * h) (omega arith) in (i - j, omega arith)
-
--- the lower of two multiples is a step or more below the higher
-multiple-gap : (h a b : ℕ) → Multiple h a → Multiple h b → b < a → b + h ≤ a
-multiple-gap h a b (i, u) (j, v) l = omega (arith, mul-le-mul-right {m = suc j} {n = i} h (lt-of-mul-lt-mul-right h (omega arith)))
 
 -- on the grid, the next interval starts a cell or more above
 apart-grid : (h m : ℕ) (L : List Interval) → Multiple h m → OnGrid h L → Apart (suc m) L → Apart (m + h) L
@@ -105,66 +94,27 @@ module _ (h low high : ℕ) (full : low < high) (below : high ≤ lift + reach) 
   bottoms-spaced m L c g x y n k l =
       let (a, b, u) = bottoms-to m x L c g n in
       let (e, f, v) = bottoms-to m y L c g k in
-      go (multiple-sub h (y + low - (lift + reach)) (x + low - (lift + reach)) v u (omega arith)) a e
-    where
-      go : Multiple h (y + low - (lift + reach) - (x + low - (lift + reach))) → lift + reach ≤ x + low → lift + reach ≤ y + low → Steps h (x + h) y
-      go (zero, w) a e = absurd (omega arith)
-      go (suc j, w) a e = (j, omega arith)
+      let (j, w) = multiple-sub h (y + low - (lift + reach)) (x + low - (lift + reach)) v u (omega arith) in
+      multiple-steps h x y l (j, omega arith)
 
 -- ---- where a block fits
-
-pub multiple-mod : (h x : ℕ) → x % h ≡ 0 → Multiple h x
-multiple-mod h x e = (x / h, omega (arith, div-add-mod' x h))
-
-mod-multiple : (h x : ℕ) → Multiple h x → x % h ≡ 0
-mod-multiple h x (k, e) = ap (λ (w : ℕ). w % h) e ∙ mul-mod-left k h
 
 pub whole-cells : (k : Block) → Solid k → Multiple (height (k .kind)) (k .high - k .low)
 whole-cells k s = multiple-mod (height (k .kind)) (k .high - k .low) (s .whole)
 
+-- a bound of the block, from the lifted bottom
+lifted-bound : (z x : ℕ) → z + lift + x - (lift + reach) ≡ z + x - reach
+lifted-bound z x = omega arith
+
 module _ (d : Device) (b : Book) (k : Block) (s : Solid k) (p : ℕ) (on : p + k .column < columns d) (same : kind d (p + k .column) ≡ k .kind) where
-  -- an interval holds the half rows of the block just where they are free
-  held : (z : ℕ) → reach ≤ z + k .low → z + k .high ≤ top d (p + k .column) + reach
-      → Holds (z + k .low - reach) (z + k .high - reach) (intervals d b (p + k .column))
-      ↔ ((y : ℕ) → z + k .low - reach ≤ y → y < z + k .high - reach → free d b (p + k .column) y ≡ true)
-  unfolding intervals
-  held z a e =
-      let f = s .full in
-      holds-free (free d b (p + k .column)) (top d (p + k .column)) (z + k .low - reach) (z + k .high - reach) (intervals d b (p + k .column))
-      (omega arith) (omega arith) (intervals-free (free d b (p + k .column)) (top d (p + k .column)))
-
-  -- what an interval holds ends on the device
-  held-below : (z : ℕ) → reach ≤ z + k .low → Holds (z + k .low - reach) (z + k .high - reach) (intervals d b (p + k .column)) → z + k .high ≤ top d (p + k .column) + reach
-  unfolding intervals
-  held-below z a h =
-      let f = s .full in
-      let n = holds-of (z + k .low - reach) (z + k .high - reach) (omega arith) (intervals d b (p + k .column)) h (z + k .high - reach - 1) (omega arith) (omega arith) in
-      omega (arith, intervals-free (free d b (p + k .column)) (top d (p + k .column)) .named (z + k .high - reach - 1) .0 n .0)
-
   -- THEOREM: the block fits at z just where an interval of its column holds it, and it is on its grid
   pub fits-stood : (z : ℕ) → block-fits d b k p z ≡ true → Stood (height (k .kind)) (k .low) (k .high) (z + lift) (intervals d b (p + k .column))
   fits-stood z e =
       let g = fitting-to d b k p z e in
       let a = g .above in
-      let x : z + lift + k .low - (lift + reach) ≡ z + k .low - reach = omega arith in
-      let y : z + lift + k .high - (lift + reach) ≡ z + k .high - reach = omega arith in
-      rw (x, y) (omega arith, held z a (g .below) .1 (λ i l m. at i l m (g .free (i - (z + k .low - reach)) (omega arith))), multiple-mod (height (k .kind)) (z + k .low - reach) (g .grid))
-    where
-      at : (i : ℕ) → z + k .low - reach ≤ i → i < z + k .high - reach → free d b (p + k .column) (z + k .low - reach + (i - (z + k .low - reach))) ≡ true → free d b (p + k .column) i ≡ true
-      at i l m e = let n : z + k .low - reach + (i - (z + k .low - reach)) ≡ i = omega arith in rw n at e
+      rw (lifted-bound z (k .low), lifted-bound z (k .high)) (omega arith, fits-held d b k p z (s .full) g, multiple-mod (height (k .kind)) (z + k .low - reach) (g .grid))
 
   pub stood-fits : (z : ℕ) → Stood (height (k .kind)) (k .low) (k .high) (z + lift) (intervals d b (p + k .column)) → block-fits d b k p z ≡ true
   stood-fits z (a, h, m) =
-      let x : z + lift + k .low - (lift + reach) ≡ z + k .low - reach = omega arith in
-      let y : z + lift + k .high - (lift + reach) ≡ z + k .high - reach = omega arith in
-      let f = s .full in
-      let h′ = rw (x, y) at h in
-      let b′ = held-below z (omega arith) h′ in
-      fitting-of d b k p z (record {
-        column = on;
-        kind = same;
-        above = omega arith;
-        grid = mod-multiple (height (k .kind)) (z + k .low - reach) (rw x at m);
-        below = b′;
-        free = λ i l. held z (omega arith) b′ .0 h′ (z + k .low - reach + i) (omega arith) (omega arith);
-      })
+      fitting-of d b k p z (held-fits d b k p z (s .full) on same (omega arith)
+      (mod-multiple (height (k .kind)) (z + k .low - reach) (rw (lifted-bound z (k .low)) at m)) (rw (lifted-bound z (k .low), lifted-bound z (k .high)) at h))

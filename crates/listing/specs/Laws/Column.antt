@@ -1,5 +1,5 @@
 -- A task in one column of a sound record: what the walks need of the record, and the model's ranges at the end. Assumes nothing.
-use Prim.Native.Nat.{ℕ, zero, suc, _+_, _-_, _*_, _/_, _≤_, _<_}
+use Prim.Native.Nat.{ℕ, _+_, _-_, _*_, _/_, _≤_, _<_}
 use mathlib.Core.Path.{_≡_, refl, sym, ap, subst, _∙_}
 use mathlib.Core.Bool.{Bool, true, false, true≢false, false≢true}
 use mathlib.Core.List.{List, map}
@@ -10,9 +10,10 @@ use borrow.Author.Tests.{eqb-true, eqb-false}
 use lib.ListN.{length, getD, set}
 use lib.Seq.{getD-set-same}
 use native.Mathlib.Nat.{div-add-mod'}
-use Rattle.runs.specs.Runs.{Run, run, Mem}
-use Rattle.runs.specs.Intervals.{Interval, interval, Multiple}
+use Rattle.runs.specs.Runs.{Mem}
+use Rattle.runs.specs.Intervals.{Interval, interval}
 use Rattle.runs.specs.Meet.{Step, Lcm}
+use Rattle.runs.specs.Laws.Steps.{multiple-le}
 use Rattle.model.specs.Laws.Bounded.{last-or}
 use Rattle.model.specs.Kinds.{number-of}
 use Rattle.model.specs.Limits.{block-size, max-blocks, max-kind, max-columns, max-rows, columns-at, kinds-at}
@@ -27,6 +28,7 @@ use Rattle.model.specs.Laws.Tasks.{sized-to, solid-block}
 use Rattle.model.specs.Laws.Limits.{limits-to}
 use Rattle.model.specs.Laws.Cells.{interval-ends}
 use Rattle.model.specs.Laws.Parts.{getD-list}
+use Rattle.model.specs.Laws.WriteBack.{count-listed}
 use Rattle.model.specs.Laws.Clauses.{clauses-to}
 use Rattle.model.specs.Laws.ReadBack.{getD-in}
 use Rattle.model.specs.Laws.Sound.{columns-said, listed-said, sound-length, sound-within}
@@ -35,11 +37,11 @@ use Rattle.task.specs.Laws.Blocks.{same-seen, block-within}
 use Rattle.task.specs.declared.Block.{Block}
 use Rattle.listing.specs.Bottoms.{lift, lowered, Standing}
 use Rattle.listing.specs.Arrays.{max-runs, read, Room, Lowerable, bottom-at, top-at, Meetable, Met}
-use Rattle.listing.specs.Columns.{Given, OfKind, On, OnAll, Startable, Started, LiftedTo, Nextable, Lifted, column-runs, Ranged}
+use Rattle.listing.specs.Columns.{Given, OfKind, On, OnAll, Startable, Started, LiftedTo, Nextable, Lifted, Ranged}
 use Rattle.listing.specs.Laws.Bottoms.{whole-cells}
 use Rattle.listing.specs.Laws.Blocks.{column-apart, column-grid, listed-spaced, listed-bound, listed-step, listed-start, listed-next, listed-all, none-stand}
-use Rattle.listing.specs.Laws.Arrays.{length-read, getD-read, ends-named, few-runs}
-use Rattle.listing.specs.Laws.Walk.{height-small, count-listed, listed-at}
+use Rattle.listing.specs.Laws.Arrays.{length-read, ends-named, few-runs}
+use Rattle.listing.specs.Laws.Walk.{height-step, listed-at}
 
 -- ---- the device columns
 
@@ -121,11 +123,9 @@ start-lifted r t F T p n s g = record { few = omega (arith, g .count-is); listed
 
 -- in steps of 2 or more there are few runs
 few-listed : (r t : List ℕ) (p k s n : ℕ) (F T : List ℕ) → Standing (device-of r) (book-of r) t p k s (read n F T) → n ≤ max-runs
-few-listed r t p k s n F T g = omega (arith, length-read n F T, few-runs s (read n F T) (two (g .common .all 0 (omega arith))) (g .canon) (listed-bound (device-of r) (book-of r) t p k s (read n F T) g))
-  where
-    two : Multiple (height (block t 0 .kind)) s → 2 ≤ s
-    two (zero, e) = absurd (omega (arith, g .common .pos))
-    two (suc j, e) = omega (arith, height-two (block t 0 .kind))
+few-listed r t p k s n F T g =
+    let two : 2 ≤ s = omega (arith, height-two (block t 0 .kind), multiple-le (height (block t 0 .kind)) s (g .common .pos) (g .common .all 0 (omega arith))) in
+    omega (arith, length-read n F T, few-runs s (read n F T) two (g .canon) (listed-bound (device-of r) (book-of r) t p k s (read n F T) g))
 
 module _ (r t : List ℕ) (p k n s : ℕ) (F T : List ℕ) (x : Nextable r t p k n s F T) where
   given : Given r t
@@ -135,16 +135,16 @@ module _ (r t : List ℕ) (p k n s : ℕ) (F T : List ℕ) (x : Nextable r t p k
   on = x .liftable .on k (x .next)
 
   -- the column's intervals are those of the book
-  listed-is : listed-intervals r (p + block t k .column) ≡ intervals (device-of r) (book-of r) (p + block t k .column)
-  listed-is = listed-said r (clauses-to r (given .sound)) (p + block t k .column) (omega (arith, on .0, few-columns r (given .sound)))
+  listed-free : listed-intervals r (p + block t k .column) ≡ intervals (device-of r) (book-of r) (p + block t k .column)
+  listed-free = listed-said r (clauses-to r (given .sound)) (p + block t k .column) (omega (arith, on .0, few-columns r (given .sound)))
 
   ends-at : (j : ℕ) → j < count-of r (p + block t k .column)
       → (bottom-at r (p + block t k .column) j < top-at r (p + block t k .column) j) × (top-at r (p + block t k .column) j ≤ 2 * max-rows)
   ends-at j l =
       let c = p + block t k .column in
       let e = listed-at r c j (interval 0 0) l in
-      let m : j < length (intervals (device-of r) (book-of r) c) = omega (arith, count-listed r c, ap length listed-is) in
-      let f = sym (ap (λ (L : List Interval). getD L j (interval 0 0)) listed-is) ∙ e in
+      let m : j < length (intervals (device-of r) (book-of r) c) = omega (arith, count-listed r c, ap length listed-free) in
+      let f = sym (ap (λ (L : List Interval). getD L j (interval 0 0)) listed-free) ∙ e in
       let (a, b) = interval-ends (device-of r) (book-of r) c (getD (intervals (device-of r) (book-of r) c) j (interval 0 0)) (getD-in (intervals (device-of r) (book-of r) c) j (interval 0 0) m) in
       let h = top-le (device-of r) c in
       let q = limits-to (device-of r) (book-of r) (sound-within r (given .sound)) .rows in
@@ -161,8 +161,8 @@ module _ (r t : List ℕ) (p k n s : ℕ) (F T : List ℕ) (x : Nextable r t p k
         size = sound-length r (given .sound);
         column = omega (arith, on .0, few-columns r (given .sound));
         few = clauses-to r (given .sound) .few-intervals c (omega (arith, on .0, few-columns r (given .sound)));
-        apart = rw listed-is (column-apart (device-of r) (book-of r) c);
-        grid = rw listed-is (rw (on .1) at (column-grid (device-of r) (book-of r) c w));
+        apart = rw listed-free (column-apart (device-of r) (book-of r) c);
+        grid = rw listed-free (rw (on .1) at (column-grid (device-of r) (book-of r) c w));
         ends = ends-at;
         full = z .full;
         below = z .below;
@@ -186,7 +186,7 @@ module _ (r t : List ℕ) (p k n s : ℕ) (F T : List ℕ) (x : Nextable r t p k
     pub next-steps : (h : ℕ) → h ≡ height (seen b .kind) → Step s × Step h
     next-steps h e =
         let (one, ten) = listed-step (device-of r) (book-of r) t p k s (read n F T) (x .lifted .listed) (some-blocks r t given) (omega (arith, x .next)) in
-        ((one, omega arith), (omega (arith, height-two (seen b .kind)), omega (arith, height-small (seen b .kind))))
+        ((one, omega arith), rw e (height-step (seen b .kind)))
 
     pub next-lifted : (L H G U : List ℕ) (o h l : ℕ) → read n L H ≡ read n F T → Met r (p + b .column) (seen b) s (read n L H) (read o G U) → h ≡ height (seen b .kind)
         → Lcm s h l → LiftedTo r t p (k + 1) o l G U
@@ -194,7 +194,7 @@ module _ (r t : List ℕ) (p k n s : ℕ) (F T : List ℕ) (x : Nextable r t p k
         let w = sound-within r (given .sound) in
         let lcm = rw (q, same .kind) at c in
         let met = rw e at (subst (λ (a : model.Block). Met r (p + a .column) a s (read n L H) (read o G U)) (same-seen b (block t k) same) m) in
-        let g = listed-next (device-of r) (book-of r) t p w (given .formed) k (x .next) (on .0) (on .1) s l (read n F T) (read o G U) (x .lifted .listed) lcm (rw listed-is at (met l lcm)) in
+        let g = listed-next (device-of r) (book-of r) t p w (given .formed) k (x .next) (on .0) (on .1) s l (read n F T) (read o G U) (x .lifted .listed) lcm (rw listed-free at (met l lcm)) in
         record { few = few-listed r t p (k + 1) l o G U (rw add-one g); listed = rw add-one g }
 
 -- ---- all blocks
@@ -226,11 +226,3 @@ unfolding read
 ranged-none r t p F T q x o e =
     let (k, l, h) = o .none e in
     record { few = omega arith; runs = none-stand (device-of r) (book-of r) t p (sound-within r (x .sound)) (x .formed) (some-blocks r t x) k l (λ a b. h (a, b)) }
-
--- ---- what a caller reads: as many runs as the model lists, and each of them
-
-pub ranged-count : (r t : List ℕ) (p : ℕ) (F T : List ℕ) (n : ℕ) → Ranged r t p F T n → n ≡ length (column-runs r t p)
-ranged-count r t p F T n x = sym (length-read n F T) ∙ ap length (x .runs)
-
-pub ranged-at : (r t : List ℕ) (p : ℕ) (F T : List ℕ) (n i : ℕ) (d : Run) → Ranged r t p F T n → i < n → getD (column-runs r t p) i d ≡ run (getD F i 0) (getD T i 0)
-ranged-at r t p F T n i d x l = sym (ap (λ (L : List Run). getD L i d) (x .runs)) ∙ getD-read n i F T d l

@@ -23,9 +23,9 @@ use Rattle.model.specs.Laws.Steps.{fits-steps}
 use Rattle.model.specs.Laws.NoPosition.{ranges-none-iff}
 use Rattle.model.specs.Laws.Sound.{sound-within}
 use Rattle.listing.specs.Arrays.{max-runs, read, Room}
-use Rattle.listing.specs.Columns.{Given, column-runs, Ranged}
+use Rattle.listing.specs.Columns.{Given, ranges-in, Ranged}
 use Rattle.listing.specs.Output.{Writable, AllWritable, column-bytes, ranges-below, Answers}
-use Rattle.listing.specs.declared.Listed.the-variants.{Ranges, NoPosition}
+use Rattle.listing.specs.declared.output.Listed.the-variants.{Ranges, NoPosition}
 use Rattle.listing.specs.Laws.Blocks.{step-ten}
 use Rattle.listing.specs.Laws.Arrays.{length-read, ends-named}
 use Rattle.listing.specs.Laws.Column.{some-blocks, few-columns}
@@ -152,9 +152,9 @@ module _ (r t : List ℕ) (g : Given r t) (o₀ : List ℕ) (big : list-room ≤
       unfolding join-below
       written-next s o′ e h =
           let K = ranges-below r t p in
-          let M = map (range-of p (step t)) (column-runs r t p) in
+          let M = map (range-of p (step t)) (ranges-in (device-of r) (book-of r) t p) in
           let count : n ≡ length K = w .count in
-          let kM : k ≡ length M = sym (length-read k F T) ∙ ap length (x .runs) ∙ sym (length-map (column-runs r t p) (range-of p (step t))) in
+          let kM : k ≡ length M = sym (length-read k F T) ∙ ap length (x .runs) ∙ sym (length-map (ranges-in (device-of r) (book-of r) t p) (range-of p (step t))) in
           let a : length (join-in range-bytes K) ≡ range-size * n = length-ranges K ∙ ap (λ (z : ℕ). range-size * z) (sym count) in
           let b : length (join-in range-bytes M) ≡ range-size * k = length-ranges M ∙ ap (λ (z : ℕ). range-size * z) (sym kM) in
           let room : range-size * n ≤ length o₀ = omega (arith, w .few, few-columns r (g .sound)) in

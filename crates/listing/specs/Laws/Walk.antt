@@ -4,7 +4,6 @@ use mathlib.Core.Path.{_≡_, refl, ap, _∙_}
 use mathlib.Core.Logic.{_⊎_, inl, inr}
 use mathlib.Core.List.{List, [], _∷_}
 use native.Mathlib.Omega.{arith}
-use native.Mathlib.Nat.{mul-le-mul}
 use native.Mathlib.Numerals.{add-one}
 use lib.Dec.{eqb}
 use lib.ListN.{length, getD, drop}
@@ -12,9 +11,12 @@ use lib.Seq.{drop-cons}
 use Rattle.runs.specs.Laws.Tests.{cond-ind}
 use Rattle.runs.specs.Runs.{Run, run, Mem, push}
 use Rattle.runs.specs.Intervals.{Interval, interval, Multiple, OnGrid}
-use Rattle.runs.specs.Meet.{Proper, Lcm, Both-of}
+use Rattle.runs.specs.Meet.{Step, Proper, Lcm, Both-of}
 use Rattle.runs.specs.Laws.Runs.{InStep}
-use Rattle.runs.specs.Laws.Both.{from-weaken, Walk, Put, both?, both-steps, lcm-unique, written-met, pass-left, pass-right, walk-start, walk-done, written-of}
+use Rattle.runs.specs.Laws.Steps.{multiple-le, multiple-sub}
+use Rattle.runs.specs.Laws.Canon.{from-weaken}
+use Rattle.runs.specs.Laws.Lcm.{lcm-unique, product-small}
+use Rattle.runs.specs.Laws.Both.{Walk, Put, both?, both-steps, written-met, pass-left, pass-right, walk-start, walk-done, written-of}
 use Rattle.runs.specs.declared.Range.{Range}
 use Rattle.model.specs.Limits.{reach}
 use Rattle.model.specs.Columns.{height, kind-C}
@@ -22,30 +24,27 @@ use Rattle.model.specs.Tasks as model
 use Rattle.model.specs.Record.{listed-intervals}
 use Rattle.model.specs.Sound.{count-of}
 use Rattle.model.specs.Laws.Columns.{height-two}
-use Rattle.model.specs.Laws.Parts.{length-list, getD-list}
+use Rattle.model.specs.Laws.Parts.{getD-list}
+use Rattle.model.specs.Laws.WriteBack.{count-listed}
 use Rattle.listing.specs.Bottoms.{lift, bottoms-in, range-in, bottoms}
 use Rattle.listing.specs.Arrays.{read, Room, Pushable, Puttable, Joined, bottom-at, top-at, Meetable, Met}
-use Rattle.listing.specs.Laws.Bottoms.{multiple-sub, bottoms-none, bottoms-short, bottoms-tall, bottoms-from, bottoms-spaced}
+use Rattle.listing.specs.Laws.Bottoms.{bottoms-none, bottoms-short, bottoms-tall, bottoms-from, bottoms-spaced}
 use Rattle.listing.specs.Laws.Arrays.{length-read, drop-read, drop-all, steps-at, ends-named, few-runs}
 
-pub height-small : (k : ℕ) → height k < 256
+pub height-step : (k : ℕ) → Step (height k)
 unfolding height
-height-small k = cond-ind (λ h. h < 256) (eqb k kind-C) (λ e. omega arith) (λ e. omega arith)
+height-step k = cond-ind Step (eqb k kind-C) (λ e. omega arith) (λ e. omega arith)
 
 -- ---- the intervals that the record lists, one after the other
 
 module _ (r : List ℕ) (c : ℕ) where
-  pub count-listed : length (listed-intervals r c) ≡ count-of r c
-  unfolding listed-intervals
-  count-listed = length-list (λ j. interval (bottom-at r c j) (top-at r c j)) (count-of r c)
-
   pub listed-at : (j : ℕ) (d : Interval) → j < count-of r c → getD (listed-intervals r c) j d ≡ interval (bottom-at r c j) (top-at r c j)
   unfolding listed-intervals
   listed-at j d l = getD-list (λ j. interval (bottom-at r c j) (top-at r c j)) (count-of r c) j d l
 
   drop-listed : (j : ℕ) → j < count-of r c → drop j (listed-intervals r c) ≡ interval (bottom-at r c j) (top-at r c j) ∷ drop (j + 1) (listed-intervals r c)
   drop-listed j l =
-      rw (add-one, drop-cons (listed-intervals r c) j (interval 0 0) (omega (arith, count-listed)))
+      rw (add-one, drop-cons (listed-intervals r c) j (interval 0 0) (omega (arith, count-listed r c)))
       (ap {B = List Interval} (λ i. i ∷ drop (suc j) (listed-intervals r c)) (listed-at j (interval 0 0) l))
 
 grid-at : (h j : ℕ) (L : List Interval) (d : Interval) → OnGrid h L → j < length L → Multiple h (getD L j d .bottom) × Multiple h (getD L j d .top)
@@ -136,7 +135,7 @@ module _ (r : List ℕ) (c : ℕ) (k : model.Block) (F T : List ℕ) (n s : ℕ)
         let (u, v) = rw (listed-at r c j (interval 0 0) q) at (grid-at h j (listed-intervals r c) (interval 0 0) (m .grid) (omega (arith, count-listed r c))) in
         let (o, d) =
         multiple-sub h (top-at r c j - bottom-at r c j) (k .high - k .low) (multiple-sub h (top-at r c j) (bottom-at r c j) v u (omega arith)) (m .whole) t in
-        record { step = (omega (arith, height-two (k .kind)), height-small (k .kind)); last = (o, omega arith); bound = omega arith }
+        record { step = height-step (k .kind); last = (o, omega arith); bound = omega arith }
 
     -- what is met of the two is put at the end
     put-both : (O : List Run) (e : Range) → Both-of a b e → Put (e .step) x y s h O (push (e .step) (run (e .first) (e .last)) O)
@@ -147,11 +146,7 @@ module _ (r : List ℕ) (c : ℕ) (k : model.Block) (F T : List ℕ) (n s : ℕ)
     put-of O O′ l p (inr (e, z, o)) = let u : e .step ≡ l = lcm-unique s h (e .step) l (z .lcm) p in rw (o, u) (rw u at (put-both O e z))
 
     two : (l : ℕ) → Lcm s h l → 2 ≤ l
-    two l p = go (p .right)
-      where
-        go : Multiple h l → 2 ≤ l
-        go (zero, e) = absurd (omega (arith, p .pos))
-        go (suc j, e) = omega (arith, height-two (k .kind))
+    two l p = omega (arith, height-two (k .kind), multiple-le h l (p .pos) (p .right))
 
     -- there is room for it
     room-for : (o : ℕ) (G U : List ℕ) → Room G U → Walking r c k s A i j (read o G U) → (e : Range) → Both-of a b e → Pushable G U o e
@@ -164,7 +159,7 @@ module _ (r : List ℕ) (c : ℕ) (k : model.Block) (F T : List ℕ) (n s : ℕ)
           room = room;
           fits = few-runs (e .step) (push (e .step) (run (e .first) (e .last)) (read o G U)) (two (e .step) (z .lcm)) (made .canon)
               (λ y n. m .bound y (written-of s h A B (e .step) _ y (push (e .step) (run (e .first) (e .last)) (read o G U)) made n));
-          step = omega (arith, z .lcm .small, mul-le-mul {n₁ = s} {m₁ = h} {n₂ = 255} {m₂ = 255} (omega (arith, m .step)) (omega (arith, height-small (k .kind))));
+          step = omega (arith, z .lcm .small, product-small s h (m .step) (height-step (k .kind)));
           last = λ l. omega (
             arith,
             m .bound (getD U (o - 1) 0)

@@ -12,7 +12,8 @@ use lib.ListN.{length, getD}
 use borrow.Author.Tests.{eq-eqb, ne-eqb, le-leb, lt-ltb}
 use Rattle.runs.specs.Intervals.{Interval, Named, Apart, OnGrid, intervals as maximal-runs}
 use Rattle.runs.specs.Laws.Tests.{tests, lt-or-ge}
-use Rattle.runs.specs.Laws.Intervals.{intervals-free, free-intervals, grid-count}
+use Rattle.runs.specs.Laws.Intervals.{intervals-free, free-intervals}
+use Rattle.runs.specs.Laws.Grid.{grid-count}
 use Rattle.model.specs.Limits.{max-rows, max-columns, max-kind, max-intervals, block-size, reach, counts-at, column-size}
 use Rattle.model.specs.Columns.{Device, columns, height, kind, top}
 use Rattle.model.specs.Tasks.{block, blocks, sized, well-formed}
@@ -28,7 +29,7 @@ use Rattle.model.specs.Laws.Changed.{changed, changed-same, changed-other}
 use Rattle.model.specs.Laws.Record.{put-column, image-shows, image-column, image-cong}
 use Rattle.model.specs.Laws.WriteBack.{Bytes}
 use Rattle.model.specs.Laws.Sound.{sound-record}
-use Rattle.column.specs.Laws.{Encodes, free-small}
+use Rattle.column.specs.Laws.Part.{Encodes, free-small}
 use Rattle.record.specs.Columns.{runs-of}
 
 -- ---- a record whose columns list the half rows that pass a test

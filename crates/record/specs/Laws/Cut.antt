@@ -9,7 +9,8 @@ use lib.ListN.{length}
 use borrow.Author.Tests.{not-true}
 use Rattle.runs.specs.Intervals.{subtract}
 use Rattle.runs.specs.Laws.Tests.{lt-or-ge}
-use Rattle.runs.specs.Laws.Intervals.{Outside, intervals-free, free-intervals, subtract-free, subtract-grid}
+use Rattle.runs.specs.Laws.Intervals.{Outside, intervals-free, free-intervals, subtract-free}
+use Rattle.runs.specs.Laws.Grid.{subtract-grid}
 use Rattle.model.specs.Limits.{column-size, record-size}
 use Rattle.model.specs.Bounded.{any-below}
 use Rattle.model.specs.Columns.{Device, height, kind, top}
@@ -26,7 +27,7 @@ use Rattle.model.specs.Laws.Freed.{free-insert}
 use Rattle.model.specs.Laws.Record.{put-column, image-shows}
 use Rattle.model.specs.Laws.WriteBack.{Bytes}
 use Rattle.column.specs.Part.{Room}
-use Rattle.column.specs.Laws.{room-of}
+use Rattle.column.specs.Laws.Part.{room-of}
 use Rattle.record.specs.Columns.{column-list, runs-of}
 use Rattle.record.specs.Enter.{free-cut, taken}
 use Rattle.record.specs.Laws.Columns.{runs-same, sound-runs, covers-not, covers-to, covers-of, Stands, stands}

@@ -1,88 +1,49 @@
 -- Why `fits` is right: each test that refuses is one of the model's, and where all pass, a free interval holds the block just where it fits. Assumes nothing.
-use Prim.Native.Nat.{ℕ, zero, suc, _+_, _-_, _*_, _%_, _≤_, _<_}
-use mathlib.Core.Path.{_≡_, refl, sym, ap, ap₂, _∙_}
+use Prim.Native.Nat.{ℕ, _+_, _-_, _*_, _%_, _≤_, _<_}
+use mathlib.Core.Path.{_≡_, sym, _∙_}
 use mathlib.Core.Logic.{_⊎_, inl, inr}
 use mathlib.Core.Bool.{Bool, true, false, true≢false, false≢true}
 use mathlib.Core.List.{List}
 use native.Mathlib.Omega.{arith}
-use native.Mathlib.Nat.{zero-add}
-use lib.ListN.{length, getD, take, drop, length-take, length-drop}
-use lib.Seq.{ext-getD}
-use Rattle.runs.specs.Intervals.{Interval, interval, Holds}
-use Rattle.model.specs.Limits.{max-rows, max-columns, reach, columns-at, kinds-at, column-size, interval-size}
+use lib.ListN.{getD}
+use Rattle.runs.specs.Intervals.{Holds}
+use Rattle.model.specs.Limits.{max-rows, max-columns, reach, columns-at, kinds-at}
 use Rattle.model.specs.Columns.{columns, height, kind}
-use Rattle.model.specs.Tasks.{Block, word, blocks, block, sized, well-formed}
+use Rattle.model.specs.Tasks.{Block, blocks, block, sized, well-formed}
 use Rattle.model.specs.Book.{intervals, block-fits, fits}
-use Rattle.model.specs.Record.{part, column-at, device-of, book-of, listed-intervals}
+use Rattle.model.specs.Record.{device-of, book-of, listed-intervals}
 use Rattle.model.specs.Sound.{count-of, sound}
 use Rattle.model.specs.Laws.Bounded.{clash, is-false, same-test, true-or-false, last-or}
 use Rattle.model.specs.Laws.Tasks.{sized-to, solid-block}
 use Rattle.model.specs.Laws.Fits.{Fitting, fitting-to, fitting-of, fits-to, fits-of, fits-below}
 use Rattle.model.specs.Laws.Limits.{limits-to}
 use Rattle.model.specs.Laws.Ends.{fits-held, held-fits}
-use Rattle.model.specs.Laws.Parts.{getD-list, length-list}
-use Rattle.model.specs.Laws.ColumnPart.{word-part}
+use Rattle.model.specs.Laws.Parts.{getD-list}
 use Rattle.model.specs.Laws.Clauses.{clauses-to}
-use Rattle.model.specs.Laws.WriteBack.{said}
 use Rattle.model.specs.Laws.Sound.{columns-said, listed-said, sound-length, sound-within}
-use Rattle.column.specs.Part.{Part, interval-at, listed-from, listed-in, holding}
-use Rattle.column.specs.Laws.{holding-in, holder-holds, holding-out}
+use Rattle.column.specs.Part.{Part, listed-in, holding}
+use Rattle.column.specs.Laws.Lent.{lent, lent-is, listed-lent}
+use Rattle.column.specs.Laws.Holding.{holding-in, holder-holds, holding-out}
 use Rattle.column.specs.declared.Interval.{Interval as Read}
 use Rattle.column.specs.declared.Held.{Held}
 use Rattle.column.specs.declared.Held.the-variants.{In, Nowhere}
 use Rattle.record.specs.Fits.{Listed, HeldIn, Movable}
 
--- ---- a column's part
+-- ---- the search of a column's part
 
--- column c's part, as it is lent out of the record
-abbrev pub lent : List ℕ → ℕ → List ℕ
-lent r c = take (column-at c + column-size - column-at c) (drop (column-at c) r)
+pub lent-part : (r : List ℕ) (c : ℕ) → Listed r c → Part (lent r c) (count-of r c)
+lent-part r c x = lent-is r c (x .size) (x .column) (x .few)
 
-lent-part : (r : List ℕ) (c : ℕ) → lent r c ≡ part r (column-at c) column-size
-unfolding part
-lent-part r c = let e : column-at c + column-size - column-at c ≡ column-size = omega arith in rw e
-
-pub lent-is : (r : List ℕ) (c : ℕ) → Listed r c → Part (lent r c) (count-of r c)
-lent-is r c x = record { size = simp (length-take, length-drop) (omega (arith, x .size, x .column)); few = x .few }
-
-length-from : (p : List ℕ) (i n : ℕ) → length (listed-from p i n) ≡ n
-length-from p i zero = refl
-length-from p i (suc n) = ap suc (length-from p (suc i) n)
-
-getD-from : (p : List ℕ) (i n k : ℕ) (d : Interval) → k < n → getD (listed-from p i n) k d ≡ interval-at p (i + k)
-getD-from p i zero k d q = absurd (omega arith)
-getD-from p i (suc n) zero d q = let e : i + 0 ≡ i = omega arith in rw e
-getD-from p i (suc n) (suc k) d q = let e : i + suc k ≡ suc i + k = omega arith in rw e (getD-from p (suc i) n k d (omega arith))
-
--- the intervals that the part lists are those that the record lists
-pub listed-lent : (r : List ℕ) (c : ℕ) → Listed r c → listed-in (lent r c) (count-of r c) ≡ listed-intervals r c
-unfolding listed-in listed-intervals interval-at
-listed-lent r c x =
-    let n = count-of r c in
-    let none = interval 0 0 in
-    rw (lent-part r c)
-    (ext-getD none (listed-from (part r (column-at c) column-size) 0 n) (listed-intervals r c)
-    (length-from _ 0 n ∙ sym (length-list (said r c) n))
-    (λ k q.
-    let h : k < n = omega (arith, length-from (part r (column-at c) column-size) 0 n) in
-    let few = x .few in
-    let e : column-at c + (interval-size * k + 2) ≡ column-at c + interval-size * k + 2 = omega arith in
-    getD-from (part r (column-at c) column-size) 0 n k none h
-    ∙ (rw zero-add (ap₂ interval
-    (word-part r (column-at c) column-size (interval-size * k) (omega arith))
-    (word-part r (column-at c) column-size (interval-size * k + 2) (omega arith) ∙ ap (word r) e)))
-    ∙ sym (getD-list (said r c) n k none h)))
-
--- what the search of the part answers
+-- what it answers
 module _ (r : List ℕ) (c b t : ℕ) (x : Listed r c) (h : Held) (e : h ≡ holding b t (listed-in (lent r c) (count-of r c))) where
   pub held-in : (i : Read) → h ≡ In i → HeldIn r c b t true
   held-in i q = record {
-    yes = λ u. let f = rw (listed-lent r c x) at (sym e ∙ q) in holder-holds b t (listed-intervals r c) i (holding-in b t (listed-intervals r c) i f);
+    yes = λ u. let f = rw (listed-lent r c (x .size) (x .column) (x .few)) at (sym e ∙ q) in holder-holds b t (listed-intervals r c) i (holding-in b t (listed-intervals r c) i f);
     no = λ u. absurd (true≢false u);
   }
 
   pub held-nowhere : h ≡ Nowhere → HeldIn r c b t false
-  held-nowhere q = record { yes = λ u. absurd (false≢true u); no = λ u. holding-out b t (listed-intervals r c) (rw (listed-lent r c x) at (sym e ∙ q)) }
+  held-nowhere q = record { yes = λ u. absurd (false≢true u); no = λ u. holding-out b t (listed-intervals r c) (rw (listed-lent r c (x .size) (x .column) (x .few)) at (sym e ∙ q)) }
 
 -- ---- a block
 

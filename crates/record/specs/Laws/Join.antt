@@ -6,7 +6,8 @@ use mathlib.Core.Bool.{Bool, true, _||_, or-false}
 use mathlib.Core.List.{List, []}
 use native.Mathlib.Omega.{arith}
 use Rattle.runs.specs.Intervals.{unite}
-use Rattle.runs.specs.Laws.Intervals.{intervals-free, free-intervals, unite-free, unite-grid}
+use Rattle.runs.specs.Laws.Intervals.{intervals-free, free-intervals, unite-free}
+use Rattle.runs.specs.Laws.Grid.{unite-grid}
 use Rattle.model.specs.Limits.{column-size}
 use Rattle.model.specs.Bounded.{any-below}
 use Rattle.model.specs.Columns.{Device, height, kind, top}
@@ -23,7 +24,7 @@ use Rattle.model.specs.Laws.Freed.{free-without}
 use Rattle.model.specs.Laws.Record.{put-column}
 use Rattle.model.specs.Laws.WriteBack.{Bytes}
 use Rattle.column.specs.Part.{Joinable}
-use Rattle.column.specs.Laws.{joinable-of}
+use Rattle.column.specs.Laws.Part.{joinable-of}
 use Rattle.record.specs.Columns.{column-list, runs-of}
 use Rattle.record.specs.Leave.{free-join, freed}
 use Rattle.record.specs.Laws.Columns.{runs-same, sound-runs, covers-not, covers-to, covers-of, Stands, stands}

@@ -1,7 +1,8 @@
 -- `runs::first_common` meets its contract. The loop's invariant: none of those passed is common (`Passed`). Assumes nothing.
 use Prim.Native.Nat.{_+_, _-_}
 use native.Mathlib.Omega.{arith}
-use Rattle.runs.specs.Laws.Meet.{Passed, passed-start, passed-next, steps-mod}
+use Rattle.runs.specs.Laws.Steps.{steps-mod}
+use Rattle.runs.specs.Laws.Meet.{Passed, passed-start, passed-next}
 use Rattle.runs.proofs.first_common.Statement.{statement}
 use Rattle.runs.proofs.first_common.Tie as tie
 use Rattle.runs.proofs.first_common.Reads as reads
@@ -42,7 +43,7 @@ loop-again : tie.Need-loop-again Inv-loop μ-loop
 loop-again c =
     let p = c .before .before .before .pre in
     passed-next (c .before .before .before .args .m) (c .before .before .before .args .a) (c .before .before .before .args .c) (c .before .before .before .args .b)
-    (c .before .before .loop .x) (p .0 .0) (p .0 .1) (p .2) (omega arith) (c .before .before .loop .inv) (c .if1 .left)
+    (c .before .before .loop .x) (p .0) (p .2) (omega arith) (c .before .before .loop .inv) (c .if1 .left)
 
 returns-2 : tie.Need-returns-2 Inv-loop μ-loop
 returns-2 c =

@@ -2,8 +2,7 @@
 -- up to `a * b`. Assumes nothing.
 use Prim.Native.Nat.{_*_, _-_}
 use native.Mathlib.Omega.{arith}
-use native.Mathlib.Nat.{mul-le-mul}
-use Rattle.runs.specs.Laws.Meet.{Sought, lcm-start, lcm-room, lcm-next, lcm-done}
+use Rattle.runs.specs.Laws.Lcm.{product-small, Sought, lcm-start, lcm-room, lcm-next, lcm-done}
 use Rattle.runs.proofs.lcm.Statement.{statement}
 use Rattle.runs.proofs.lcm.Tie as tie
 use Rattle.runs.proofs.lcm.Reads as reads
@@ -26,8 +25,7 @@ add-m c =
     let a = c .before .before .args .a in
     let b = c .before .before .args .b in
     let r = lcm-room a b (c .before .loop .m) (c .before .before .pre .0 .0) (c .before .loop .inv) (c .loop-test .taken) in
-    let q = mul-le-mul {n₁ = a} {m₁ = b} {n₂ = 255} {m₂ = 255} (omega arith) (omega arith) in
-    omega (arith, r, q)
+    omega (arith, r, product-small a b (c .before .before .pre .0) (c .before .before .pre .1))
 
 loop-less : tie.Need-loop-less Inv-loop μ-loop
 loop-less c = omega (arith, lcm-room (c .before .before .args .a) (c .before .before .args .b) (c .before .loop .m) (c .before .before .pre .0 .0) (c .before .loop .inv) (c .loop-test .taken))

@@ -4,55 +4,18 @@ use mathlib.Core.Path.{_≡_, refl}
 use mathlib.Core.Logic.{_⊎_, inl, inr, _↔_}
 use mathlib.Core.Bool.{Bool, true, false, _&&_, and-eq-true-iff}
 use mathlib.Core.List.{List, [], _∷_}
-use Prim.Native.Nat.{ℕ, zero, suc, _+_, _-_, _*_, _≤_, _<_, min, max}
+use Prim.Native.Nat.{ℕ, suc, _+_, _*_, _≤_, _<_, min, max}
 use native.Mathlib.Omega.{arith}
-use lib.ListN.{length}
 use Rattle.runs.specs.Laws.Tests.{lt-or-ge}
-use Rattle.runs.specs.Runs.{Run, Steps, In, Mem, From, Canon, push, mem, Lists}
-use Rattle.runs.specs.Laws.Runs.{mem-ge, InStep, skip-lists, push-lists, mem-true, mem-test}
-use Rattle.runs.specs.Intervals.{Multiple}
+use Rattle.runs.specs.Runs.{Run, Steps, In, Mem, Canon, push, mem, Lists}
+use Rattle.runs.specs.Laws.Canon.{mem-ge, from-weaken}
+use Rattle.runs.specs.Laws.Runs.{InStep, skip-lists, push-lists, mem-true, mem-test}
 use Rattle.runs.specs.Meet.{Lcm}
-
--- ---- tools
-
-pub from-weaken : (s k m : ℕ) (L : List Run) → k ≤ m → From s m L → From s k L
-from-weaken s k m [] l c = tt
-from-weaken s k m (r ∷ L) l c = (omega arith, c .1, c .2)
-
-count-tail : (s m n : ℕ) (r : Run) (L : List Run) → From s m (r ∷ L) → ((y : ℕ) → Mem s y (r ∷ L) → y < n) → 2 * s * length L + m < n
-count-tail s m n r [] c b = omega (arith, b (r .first) (inl ((0, omega arith), omega arith)))
-count-tail s m n r (q ∷ L) c b = omega (arith, count-tail s (r .last + 2 * s) n q L (c .2) (λ y h. b y (inr h)))
-
--- a canonical list from m on and below n has few runs
-pub count-above : (s m n : ℕ) (L : List Run) → 1 ≤ s → m ≤ n → From s m L → ((y : ℕ) → Mem s y L → y < n) → 2 * s * length L + m < n + 2 * s
-count-above s m n [] p l c b = omega arith
-count-above s m n (r ∷ L) p l c b = omega (arith, count-tail s m n r L c b)
-
--- what a canonical list names from m on
-pub from-least : (s m k : ℕ) (L : List Run) → From s k L → ((y : ℕ) → Mem s y L → m ≤ y) → From s m L
-from-least s m k [] c h = tt
-from-least s m k (r ∷ L) c h = (h (r .first) (inl ((0, omega arith), omega arith)), c .1, c .2)
+use Rattle.runs.specs.Laws.Lcm.{lcm-steps}
 
 -- of the numbers that L names, the higher is in steps of s above the lower
 abbrev pub Spaced : ℕ → List Run → Type 0
 Spaced s L = (x y : ℕ) → Mem s x L → Mem s y L → x < y → Steps s (x + s) y
-
--- there is one least common multiple
-pub lcm-unique : (a b l m : ℕ) → Lcm a b l → Lcm a b m → l ≡ m
-lcm-unique a b l m c d = multiples (c .least m (d .left) (d .right)) (d .least l (c .left) (c .right))
-  where
-    multiples : Multiple l m → Multiple m l → l ≡ m
-    multiples (zero, u) (j, v) = absurd (omega (arith, d .pos))
-    multiples (suc i, u) (zero, v) = absurd (omega (arith, c .pos))
-    multiples (suc i, u) (suc j, v) = omega arith
-
--- in steps of a and of b is in steps of their least common multiple
-pub lcm-steps : (a b l x y : ℕ) → Lcm a b l → x < y → Steps a (x + a) y → Steps b (x + b) y → Steps l (x + l) y
-lcm-steps a b l x y c g (i, u) (j, v) = go (c .least (y - x) (suc i, omega arith) (suc j, omega arith))
-  where
-    go : Multiple l (y - x) → Steps l (x + l) y
-    go (zero, e) = absurd (omega arith)
-    go (suc k, e) = (k, omega arith)
 
 -- ---- the walk: s is the step of what is written, f the test of what is sought
 

@@ -4,14 +4,13 @@ use mathlib.Core.Logic.{_⊎_, inl, inr, _↔_}
 use mathlib.Core.Bool.{Bool, true, false}
 use mathlib.Core.List.{List, [], _∷_, map}
 use Prim.Native.Nat.{ℕ, suc, pred, _+_, _-_, _*_, _≤_, _<_, min, max}
-use native.Mathlib.Nat.{mul-le-mul-right, lt-of-mul-lt-mul-right}
 use native.Mathlib.Omega.{arith}
-use lib.ListN.{length}
 use lib.Dec.{ltb}
 use Rattle.runs.specs.Laws.Tests.{tests, cond-ind, lt-or-ge}
 use Rattle.runs.specs.Runs.{Run, run, Steps, Mem, From, runs}
-use Rattle.runs.specs.Laws.Runs.{in-step-one, runs-lists, unique}
-use Rattle.runs.specs.Intervals.{Interval, interval, Named, Apart, ofRun, intervals, Free, piece, subtract, unite, Holds, Multiple, OnGrid}
+use Rattle.runs.specs.Laws.Canon.{from-weaken, unique}
+use Rattle.runs.specs.Laws.Runs.{in-step-one, runs-lists}
+use Rattle.runs.specs.Intervals.{Interval, interval, Named, Apart, ofRun, intervals, Free, piece, subtract, unite, Holds}
 
 ex-subtract : subtract 10 20 (interval 0 5 ∷ interval 8 12 ∷ interval 15 30 ∷ []) ≡ interval 0 5 ∷ interval 8 10 ∷ interval 20 30 ∷ []
 unfolding subtract
@@ -191,70 +190,11 @@ module _ (b t : ℕ) (p : b < t) where
   holds-of (i ∷ L) (inl h) y k l = inl (omega arith)
   holds-of (i ∷ L) (inr h) y k l = inr (holds-of L h y k l)
 
--- ---- how many
-
-grid-gap : (h j k : ℕ) → j * h < k * h → j * h + h ≤ k * h
-grid-gap h j k l = let m = mul-le-mul-right {m = suc j} {n = k} h (lt-of-mul-lt-mul-right h l) in omega arith
-
-grid-from : (h m n : ℕ) (i : Interval) (L : List Interval) → Apart m (i ∷ L) → OnGrid h (i ∷ L) → ((y : ℕ) → Named y (i ∷ L) → y < n)
-    → 2 * h * length L + i .bottom + h ≤ n
-grid-from h m n i [] c (b, t, g) u = omega (arith, grid-gap h (b .0) (t .0) (omega arith), u (i .top - 1) (inl (omega arith)))
-grid-from h m n i (j ∷ L) c (b, t, g) u =
-    omega (arith, grid-gap h (b .0) (t .0) (omega arith), grid-gap h (t .0) (g .0 .0) (omega arith), grid-from h (suc (i .top)) n j L (c .2) g (λ y k. u y (inr k)))
-
--- THEOREM 3 for intervals: a canonical list on the grid of h, below n
-pub grid-count : (h n : ℕ) (L : List Interval) → Apart 0 L → OnGrid h L → ((y : ℕ) → Named y L → y < n) → 2 * h * length L ≤ n + h
-grid-count h n [] c g u = omega arith
-grid-count h n (i ∷ L) c g u = omega (arith, grid-from h 0 n i L c g u)
-
-pub at-most-64 : (f : ℕ → Bool) (n : ℕ) (L : List Interval) → n ≤ 256 → Free f n L → OnGrid 2 L → length L ≤ 64
-at-most-64 f n L l c g = omega (arith, grid-count 2 n L (c .canon) g (λ y h. c .named y .0 h .0))
-
--- the updates keep to the grid
-module _ (h : ℕ) where
-  min-multiple : (a b : ℕ) → Multiple h a → Multiple h b → Multiple h (min a b)
-  min-multiple a b p q = go (lt-or-ge a b)
-    where
-      go : (a < b) ⊎ (b ≤ a) → Multiple h (min a b)
-      go (inl l) = (p .0, omega arith)
-      go (inr l) = (q .0, omega arith)
-
-  max-multiple : (a b : ℕ) → Multiple h a → Multiple h b → Multiple h (max a b)
-  max-multiple a b p q = go (lt-or-ge a b)
-    where
-      go : (a < b) ⊎ (b ≤ a) → Multiple h (max a b)
-      go (inl l) = (q .0, omega arith)
-      go (inr l) = (p .0, omega arith)
-
-  piece-grid : (a b : ℕ) (K : List Interval) → Multiple h a → Multiple h b → OnGrid h K → OnGrid h (piece a b K)
-  unfolding piece
-  piece-grid a b K p q g = cond-ind (OnGrid h) (ltb a b) (λ e. (p, q, g)) (λ e. g)
-
-  pub subtract-grid : (b t : ℕ) (L : List Interval) → Multiple h b → Multiple h t → OnGrid h L → OnGrid h (subtract b t L)
-  unfolding subtract
-  subtract-grid b t [] p q g = tt
-  subtract-grid b t (i ∷ L) p q (x, z, g) =
-      piece-grid (i .bottom) (min (i .top) b) _ x (min-multiple (i .top) b z p)
-      (piece-grid (max (i .bottom) t) (i .top) _ (max-multiple (i .bottom) t x q) z (subtract-grid b t L p q g))
-
-  pub unite-grid : (b t : ℕ) (L : List Interval) → Multiple h b → Multiple h t → OnGrid h L → OnGrid h (unite b t L)
-  unfolding unite
-  unite-grid b t [] p q g = (p, q, tt)
-  unite-grid b t (i ∷ L) p q (x, z, g) =
-      cond-ind (OnGrid h) (ltb (i .top) b)
-      (λ e. (x, z, unite-grid b t L p q g))
-      (λ e. cond-ind (OnGrid h) (ltb t (i .bottom)) (λ d. (p, q, (x, z, g)))
-      (λ d. unite-grid (min b (i .bottom)) (max t (i .top)) L (min-multiple b (i .bottom) p x) (max-multiple t (i .top) q z) g))
-
 -- ---- intervals and runs in steps of 1
-
-from-weaken : (k m : ℕ) (R : List Run) → k ≤ m → From 1 m R → From 1 k R
-from-weaken k m [] l c = tt
-from-weaken k m (r ∷ R) l c = (omega arith, c .1, c .2)
 
 apart-of : (m : ℕ) (R : List Run) → From 1 m R → Apart m (map ofRun R)
 apart-of m [] c = tt
-apart-of m (r ∷ R) c = (c .0, omega arith, apart-of (suc (suc (r .last))) R (from-weaken _ _ R (omega arith) (c .2)))
+apart-of m (r ∷ R) c = (c .0, omega arith, apart-of (suc (suc (r .last))) R (from-weaken 1 _ _ R (omega arith) (c .2)))
 
 named-to : (m y : ℕ) (R : List Run) → From 1 m R → Named y (map ofRun R) → Mem 1 y R
 named-to m y [] c h = h
@@ -276,7 +216,7 @@ as-runs m (i ∷ L) c =
     let on : pred (i .top) + 2 * 1 ≤ suc (i .top) = omega arith in (
       run (i .bottom) (pred (i .top)) ∷ R,
       ap₂ (λ (x : ℕ) (l : List Interval). interval (i .bottom) x ∷ l) t e,
-      (c .0, st, from-weaken _ _ R on f),
+      (c .0, st, from-weaken 1 _ _ R on f),
     )
 
 -- THEOREM 2 for intervals: two canonical lists of intervals that name the same numbers are one list
@@ -309,13 +249,6 @@ free-intervals f n L g =
     apart-unique L (intervals f n) (g .canon) (h .canon) (λ y. (λ k. h .named y .1 (g .named y .0 k), λ k. g .named y .1 (h .named y .0 k)))
 
 -- ---- the updates, by the tests that they list
-
--- all is free at the start
-pub all-free : (n : ℕ) → 1 ≤ n → Free (λ y. true) n (interval 0 n ∷ [])
-all-free n p = record { canon = (omega arith, p, tt); named = λ y. (λ h. (only y h, refl), λ h. inl (omega arith, h .0)) }
-  where
-    only : (y : ℕ) → Named y (interval 0 n ∷ []) → y < n
-    only y (inl h) = h .1
 
 pub subtract-free : (f g : ℕ → Bool) (n b t : ℕ) (L : List Interval) → b < t → Free f n L
     → ((y : ℕ) → y < n → (g y ≡ true) ↔ ((f y ≡ true) × Outside b t y)) → Free g n (subtract b t L)

@@ -1,135 +1,16 @@
 -- The laws of where two ranges meet. Assumes nothing.
-use mathlib.Core.Path.{_≡_, refl, sym, ap, _∙_}
+use mathlib.Core.Path.{_≡_, refl, sym}
 use mathlib.Core.Logic.{_⊎_, inl, inr}
 use Prim.Native.Nat.{ℕ, zero, suc, _+_, _-_, _*_, _/_, _%_, _≤_, _<_, min, max}
-use native.Mathlib.Nat.{mul-le-mul-right, lt-of-mul-lt-mul-right, div-add-mod', mod-lt, mul-mod-left, mul-mod-right, mul-comm, mul-assoc}
+use native.Mathlib.Nat.{mul-le-mul-right, lt-of-mul-lt-mul-right, div-add-mod', mod-lt}
 use native.Mathlib.Omega.{arith}
 use Rattle.runs.specs.Laws.Tests.{lt-or-ge}
 use Rattle.runs.specs.Runs.{run, Steps, In}
-use Rattle.runs.specs.Intervals.{Multiple}
-use Rattle.runs.specs.Meet.{Proper, Names, Lcm, Start, FirstCommon, Both-of, Meets}
+use Rattle.runs.specs.Meet.{number-limit, search-limit, Step, Proper, Names, Lcm, Start, FirstCommon, Both-of, Meets}
+use Rattle.runs.specs.Laws.Steps.{steps-trans, steps-diff, steps-back, steps-multiple, steps-mod, mod-steps}
+use Rattle.runs.specs.Laws.Lcm.{lcm-same}
 use Rattle.runs.specs.declared.Range.{Range}
 use Rattle.runs.specs.declared.Met.the-variants.{Empty, Both}
-
--- ---- steps and multiples
-
--- the higher of two numbers in steps above a is some steps above the lower
-pub steps-diff : (s a x y : ℕ) → Steps s a x → Steps s a y → x ≤ y → Steps s x y
-steps-diff s a x y (i, e) (j, f) l = go (lt-or-ge j i)
-  where
-    go : (j < i) ⊎ (i ≤ j) → Steps s x y
-    go (inl k) = (0, omega (arith, mul-le-mul-right {m = j} {n = i} s (omega arith)))
-    go (inr k) =
-        let d : j ≡ i + (j - i) = omega arith in
-        let dm : j * s ≡ (i + (j - i)) * s = ap (λ (w : ℕ). w * s) d in
-        (j - i, omega arith)
-
-pub steps-to : (s a x y : ℕ) → Steps s a x → Steps s x y → Steps s a y
-steps-to s a x y (i, e) (j, f) = (i + j, omega arith)
-
--- down again
-pub steps-back : (s a x y : ℕ) → a ≤ x → Steps s a y → Steps s x y → Steps s a x
-steps-back s a x y l (j, f) (i, e) = go (lt-or-ge i j)
-  where
-    go : (i < j) ⊎ (j ≤ i) → Steps s a x
-    go (inl k) =
-        let d : j ≡ i + (j - i) = omega arith in
-        let dm : j * s ≡ (i + (j - i)) * s = ap (λ (w : ℕ). w * s) d in
-        (j - i, omega arith)
-    go (inr k) = (0, omega (arith, mul-le-mul-right {m = j} {n = i} s k))
-
--- steps of a multiple are steps
-pub steps-multiple : (s l x y : ℕ) → Multiple s l → Steps l x y → Steps s x y
-steps-multiple s l x y (k, e) (j, f) =
-    let m : j * l ≡ j * k * s = ap (λ (w : ℕ). j * w) e ∙ sym (mul-assoc j k s) in
-    (j * k, omega arith)
-
--- in steps by a remainder
-pub steps-mod : (s a x : ℕ) → a ≤ x → (x - a) % s ≡ 0 → Steps s a x
-steps-mod s a x l e = ((x - a) / s, omega (arith, div-add-mod' (x - a) s))
-
-pub mod-steps : (s a x : ℕ) → Steps s a x → (x - a) % s ≡ 0
-mod-steps s a x (k, e) = let d : x - a ≡ k * s = omega arith in ap (λ (w : ℕ). w % s) d ∙ mul-mod-left k s
-
--- ---- the least common multiple
-
--- m is a multiple of a, no more than a * b, and no lower one is a multiple of b
-pub record Sought (a b m : ℕ) : Type 0 where
-  pub times : ℕ
-  pub pos : 1 ≤ times
-  pub is : m ≡ times * a
-  pub small : m ≤ a * b
-  pub none : (j : ℕ) → 1 ≤ j → j < times → j * a % b ≡ 0 → ⊥
-
-pub lcm-start : (a b : ℕ) → 1 ≤ b → Sought a b a
-lcm-start a b p = record {
-  times = 1;
-  pos = omega arith;
-  is = omega arith;
-  small = omega (arith, mul-le-mul-right {m = 1} {n = b} a p, mul-comm a b);
-  none = λ j k l e. omega arith;
-}
-
-module _ (a b m : ℕ) (p : 1 ≤ a) (s : Sought a b m) where
-  room : ¬ (m % b ≡ 0) → s .times < b
-  room h = go (lt-or-ge (s .times) b)
-    where
-      go : (s .times < b) ⊎ (b ≤ s .times) → s .times < b
-      go (inl k) = k
-      go (inr k) =
-          let e : m ≡ b * a = omega (arith, s .is, s .small, mul-le-mul-right {m = b} {n = s .times} a k, mul-comm a b) in
-          absurd (h (ap (λ (w : ℕ). w % b) e ∙ mul-mod-right b a))
-
-  pub lcm-room : ¬ (m % b ≡ 0) → m + a ≤ a * b
-  lcm-room h = omega (arith, s .is, mul-le-mul-right {m = suc (s .times)} {n = b} a (room h), mul-comm a b)
-
-  pub lcm-next : ¬ (m % b ≡ 0) → Sought a b (m + a)
-  lcm-next h = record {
-    times = suc (s .times);
-    pos = omega arith;
-    is = omega (arith, s .is);
-    small = lcm-room h;
-    none = λ j k l e. go j k e (lt-or-ge j (s .times)) l;
-  }
-    where
-      go : (j : ℕ) → 1 ≤ j → j * a % b ≡ 0 → (j < s .times) ⊎ (s .times ≤ j) → j < suc (s .times) → ⊥
-      go j k e (inl g) l = s .none j k g e
-      go j k e (inr g) l = let d : m ≡ j * a = s .is ∙ ap (λ (w : ℕ). w * a) (omega arith) in h (ap (λ (w : ℕ). w % b) d ∙ e)
-
-  pub lcm-done : 1 ≤ b → m % b ≡ 0 → Lcm a b m
-  lcm-done q e = record {
-    pos = omega (arith, s .is, mul-le-mul-right {m = 1} {n = s .times} a (s .pos));
-    small = s .small;
-    left = (s .times, s .is);
-    right = (m / b, omega (arith, div-add-mod' m b));
-    least = least;
-  }
-    where
-      one : 1 ≤ m
-      one = omega (arith, s .is, mul-le-mul-right {m = 1} {n = s .times} a (s .pos))
-
-      -- what is left of a common multiple is one too, and below m
-      left : (x : ℕ) → Multiple a x → Multiple a (x % m)
-      left x (i, f) =
-          let d = div-add-mod' x m in
-          let k = steps-back a 0 (x % m) x (omega arith) (i, omega arith) (steps-multiple a m (x % m) x (s .times, s .is) (x / m, omega arith)) in
-          (k .0, omega (arith, k))
-
-      right : (x : ℕ) → Multiple b x → Multiple b (x % m)
-      right x (j, f) =
-          let d = div-add-mod' x m in
-          let g = div-add-mod' m b in
-          let k = steps-back b 0 (x % m) x (omega arith) (j, omega arith) (steps-multiple b m (x % m) x (m / b, omega arith) (x / m, omega arith)) in
-          (k .0, omega (arith, k))
-
-      zero-left : (x : ℕ) → Multiple a (x % m) → Multiple b (x % m) → x % m ≡ 0
-      zero-left x (zero, f) (j, g) = omega arith
-      zero-left x (suc i, f) (j, g) =
-          let lt : suc i < s .times = lt-of-mul-lt-mul-right a (omega (arith, mod-lt x {m = m} one, s .is)) in
-          absurd (s .none (suc i) (omega arith) lt (ap (λ (w : ℕ). w % b) (sym f ∙ g) ∙ mul-mod-left j b))
-
-      least : (x : ℕ) → Multiple a x → Multiple b x → Multiple m x
-      least x u v = (x / m, omega (arith, div-add-mod' x m, zero-left x (left x u) (right x v)))
 
 -- ---- the first common number
 
@@ -137,13 +18,13 @@ module _ (a b m : ℕ) (p : 1 ≤ a) (s : Sought a b m) where
 pub record Passed (m a c b x : ℕ) : Type 0 where
   pub steps : Steps a m x
   pub first : (z : ℕ) → Steps a m z → Steps b c z → z < x → ⊥
-  pub bound : x < 66000
+  pub bound : x < search-limit
 
-pub passed-start : (m a c b : ℕ) → m < 66000 → Passed m a c b m
+pub passed-start : (m a c b : ℕ) → m < search-limit → Passed m a c b m
 passed-start m a c b l = record { steps = (0, omega arith); first = λ z h k g. omega arith; bound = l }
 
-pub passed-next : (m a c b x : ℕ) → 1 ≤ a → a < 256 → c ≤ m → x < 65536 → Passed m a c b x → ¬ ((x - c) % b ≡ 0) → Passed m a c b (x + a)
-passed-next m a c b x p q l g s h = record {
+pub passed-next : (m a c b x : ℕ) → Step a → c ≤ m → x < number-limit → Passed m a c b x → ¬ ((x - c) % b ≡ 0) → Passed m a c b (x + a)
+passed-next m a c b x p l g s h = record {
   steps = (suc (s .steps .0), omega (arith, s .steps));
   first = λ z u v k. go z u v k (lt-or-ge z x);
   bound = omega arith;
@@ -172,12 +53,6 @@ restep : (s t x y : ℕ) → s ≡ t → Steps s x y → Steps t x y
 restep s t x y e h = rw e at h
 
 module _ (a b : Range) (pa : Proper a) (pb : Proper b) where
-  pub low-apart : b .last < a .first → Meets a b Empty
-  low-apart l y h k = omega arith
-
-  pub high-apart : a .last < b .first → Meets a b Empty
-  high-apart l y h k = omega arith
-
   -- ---- equal steps
 
   module _ (e : a .step ≡ b .step) where
@@ -195,16 +70,10 @@ module _ (a b : Range) (pa : Proper a) (pb : Proper b) where
         → Both-of a b (record { first = max (a .first) (b .first); last = min (a .last) (b .last); step = a .step })
     equal-yes m u v = record {
       named = λ y. (
-        λ h. ((steps-to (a .step) (a .first) _ y (reach m .0) (h .0), omega arith), (restep (a .step) (b .step) (b .first) y e (steps-to (a .step) (b .first) _ y (reach m .1) (h .0)), omega arith)),
+        λ h. ((steps-trans (a .step) (a .first) _ y (reach m .0) (h .0), omega arith), (restep (a .step) (b .step) (b .first) y e (steps-trans (a .step) (b .first) _ y (reach m .1) (h .0)), omega arith)),
         λ h. (steps-diff (a .step) (a .first) _ y (reach m .0) (h .0 .0) (omega arith), omega arith),
       );
-      lcm = record {
-        pos = pa .step .0;
-        small = omega (arith, mul-le-mul-right {m = 1} {n = b .step} (a .step) (pb .step .0), mul-comm (a .step) (b .step));
-        left = (1, omega arith);
-        right = (1, omega arith);
-        least = λ x h k. h;
-      };
+      lcm = lcm-same (a .step) (b .step) (pa .step) (pb .step) e;
       last = last (lt-or-ge (a .last) (b .last));
       bound = omega (arith, pa .bound);
     }
@@ -271,8 +140,8 @@ module _ (a b : Range) (pa : Proper a) (pb : Proper b) where
       where
         to : (y : ℕ) → In l y (run r (min (a .last) (b .last) - (min (a .last) (b .last) - r) % l)) → Names a y × Names b y
         to y (h, k) = (
-          (steps-to (a .step) (a .first) r y (steps-to (a .step) (a .first) st r (start .steps) (f .steps)) (steps-multiple (a .step) l r y (c .left) h), omega arith),
-          (steps-to (b .step) (b .first) r y (f .found g) (steps-multiple (b .step) l r y (c .right) h), omega arith),
+          (steps-trans (a .step) (a .first) r y (steps-trans (a .step) (a .first) st r (start .steps) (f .steps)) (steps-multiple (a .step) l r y (c .left) h), omega arith),
+          (steps-trans (b .step) (b .first) r y (f .found g) (steps-multiple (b .step) l r y (c .right) h), omega arith),
         )
 
         of : (y : ℕ) → Names a y × Names b y → In l y (run r (min (a .last) (b .last) - (min (a .last) (b .last) - r) % l))

@@ -1,6 +1,6 @@
 -- `record::fits::holds`: what the search of the column's part answers is said of the intervals that the record lists. Assumes nothing.
 use borrow.Author.Needs.{needs}
-use Rattle.record.specs.Laws.Fits.{lent-is, held-in, held-nowhere}
+use Rattle.record.specs.Laws.Fits.{lent-part, held-in, held-nowhere}
 use Rattle.record.proofs.fits.holds.Statement.{statement}
 use Rattle.record.proofs.fits.holds.Tie as tie
 
@@ -35,7 +35,7 @@ part-holder-end : tie.Need-part-holder-end
 part-holder-end c = search needs
 
 holder-requires : tie.Need-holder-requires
-holder-requires c κs = rw (c .before .wide .ensures .is) (lent-is _ _ (c .before .before .before .before .pre))
+holder-requires c κs = rw (c .before .wide .ensures .is) (lent-part _ _ (c .before .before .before .before .pre))
 
 enum-told : tie.Need-enum-told
 enum-told c = search needs

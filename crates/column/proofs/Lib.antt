@@ -1,2 +1,0 @@
--- What the proofs of `column` share.
-pub mod Laws
