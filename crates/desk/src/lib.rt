@@ -6,7 +6,7 @@ mod calls; // C, P and R
 mod ranges; // L
 pub mod lines; // a line from the fourth on
 
-pub use blocks::Step;
+pub use blocks::Left;
 pub use calls::say;
 
 // The bytes of the greatest draft.

@@ -31,7 +31,7 @@ fn lines(input: &[u8], first: usize, card: &mut [u8])
     let mut at = first;
     while at < input.len() {
         let end = desk::input::line_end(input, at);
-        let step = desk::lines::on_line(
+        let left = desk::lines::on_line(
             card,
             &mut draft,
             used,
@@ -40,8 +40,8 @@ fn lines(input: &[u8], first: usize, card: &mut [u8])
             &mut listing,
             &mut out,
         );
-        used = step.used;
-        let printed = step.printed;
+        used = left.used;
+        let printed = left.printed;
         io::write_all(STDOUT_FILENO, &out[..printed]);
         number += 1;
         at = end + 1;
