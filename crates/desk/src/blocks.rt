@@ -1,7 +1,7 @@
 // The draft task: a block added, and what a line leaves of it.
 use crate::DRAFT_ROOM;
 use crate::TOO_MANY_BLOCKS;
-use crate::calls;
+use crate::output;
 use line::call::BlockCall;
 ghost use mathlib.Core.Path.{_≡_};
 ghost use Prim.Native.Nat.{_≤_};
@@ -38,5 +38,5 @@ pub fn add_block(
         line::block::put_block(draft, used, block);
         return leave(used + model::BLOCK_SIZE, 0);
     }
-    leave(used, calls::say(out, number, TOO_MANY_BLOCKS))
+    leave(used, output::say(out, number, TOO_MANY_BLOCKS))
 }

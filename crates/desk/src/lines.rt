@@ -8,6 +8,7 @@ use crate::blocks;
 use crate::blocks::Left;
 use crate::blocks::leave;
 use crate::calls;
+use crate::output;
 use crate::ranges;
 use line::call::Call;
 use line::call::Line;
@@ -59,7 +60,7 @@ pub fn on_line(
     ensures { λ r. ⌜ Leaves (on-line number (desk-of (now (card .entry)) (take used (now (draft .entry)))) (now (line .entry))) (now (card .exit)) (now (draft .exit)) (r .used) (now (out .exit)) (r .printed) ⌝ }
 {
     let Line::Does(call) = line::call::read(line) else {
-        return leave(used, calls::say(out, number, MALFORMED));
+        return leave(used, output::say(out, number, MALFORMED));
     };
     on_call(card, draft, used, number, call, listing, out)
 }

@@ -8,7 +8,7 @@ ghost use Rattle.model.specs.Sheet.{list-draft};
 ghost use Rattle.model.specs.Program.{shows, on-call};
 ghost use Rattle.line.specs.Print.{Printed};
 ghost use Rattle.desk.specs.Desk.{line-room, desk-of, Shows, Card, Room, range-at, range-line};
-use crate::calls;
+use crate::output;
 
 // The line of output of range i, printed from byte `at` on.
 fn print_range(
@@ -51,7 +51,7 @@ pub fn list(card: &[u8], draft: &[u8], number: u32, listing: &mut [u8], out: &mu
 {
     let answer = card::card_list(card, draft, listing);
     if answer < 0 {
-        return calls::say(out, number, answer);
+        return output::say(out, number, answer);
     }
     print_ranges(listing, answer as usize, number, answer, out)
 }

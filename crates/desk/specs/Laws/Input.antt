@@ -12,8 +12,8 @@ use lib.IntN.{ℤ, pos, negsuc}
 use lib.Signed.{ltZ}
 use lib.ListN.{length, getD, take, drop, drop-of-length-le, length-drop, length-append}
 use lib.Seq.{drop-cons, drop-drop, take-at}
-use borrow.Author.Tests.{eq-eqb, ne-eqb, eqb-true}
-use Rattle.model.specs.Limits.{record-size}
+use borrow.Author.Tests.{eq-eqb, ne-eqb, eqb-true, lt-ltb, le-ltb}
+use Rattle.model.specs.Limits.{record-size, max-sheet}
 use Rattle.model.specs.Sheet.{first-names, second-names, device-line}
 use Rattle.model.specs.Record.{record-of}
 use Rattle.model.specs.Calls.{Outcome}
@@ -29,7 +29,7 @@ use Rattle.card.specs.Leaves.{Changes}
 use Rattle.desk.specs.declared.input.Begun.{Begun}
 use Rattle.desk.specs.declared.input.Begun.the-variants as begun
 use Rattle.desk.specs.Desk.{Card}
-use Rattle.desk.specs.Input.{line-of, Ends, Opens, Opened, rest-of, Begins}
+use Rattle.desk.specs.Input.{line-of, Ends, Opens, Opened, rest-of, Begins, after-names}
 use Rattle.desk.specs.Laws.Lines.{card-of}
 
 -- ---- the loop that looks for the newline
@@ -204,6 +204,15 @@ module _ (r : List ℕ) (size : length r ≡ record-size) (ls : List (List ℕ))
           let bad : a ≡ negsuc 2 = c .answer-is ∙ ap (λ (o : Outcome (List ℕ)). o .answer) (new-bad-device r (d .rows) (d .kinds) size e) in
           let z : _≡_ {A = ℕ} 0 1 = cc bad in
           absurd (omega arith)
+
+-- an input that is too long, and any other
+pub too-long : (s : List ℕ) → max-sheet < length s → after-names s ≡ says 0 (negsuc 11)
+unfolding after-names
+too-long s h = rw (lt-ltb _ _ h)
+
+pub not-long : (s : List ℕ) → length s ≤ max-sheet → after-names s ≡ first (lines s)
+unfolding after-names
+not-long s h = rw (le-ltb _ _ h)
 
 -- where the fourth line is reached, there is a card
 pub ready-card : (b : Begun) {n : ℕ} (input card output : List ℕ) → b ≡ begun.Ready n → Begins b input card output → Card card

@@ -1,9 +1,9 @@
--- `desk::calls::say` meets its contract: one line, printed from the first byte on. Assumes nothing.
+-- `desk::output::say` meets its contract: one line, printed from the first byte on. Assumes nothing.
 use borrow.Author.Needs.{needs}
 use mir.Facts.{toZ-ofZ}
 use Rattle.desk.specs.Laws.Shows.{shows-printed}
-use Rattle.desk.proofs.calls.say.Statement.{statement}
-use Rattle.desk.proofs.calls.say.Tie as tie
+use Rattle.desk.proofs.output.say.Statement.{statement}
+use Rattle.desk.proofs.output.say.Tie as tie
 
 returns : tie.Need-returns
 returns c = let s = c .before .before .before .before .before in rw (toZ-ofZ (s .fits .answer)) at (shows-printed (c .before .before .print-line .ensures .1))
