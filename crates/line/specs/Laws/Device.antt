@@ -1,7 +1,7 @@
 -- The line of rows and kinds by its two fields. Assumes nothing.
 use Prim.Native.Nat.{ℕ, suc, _+_, _-_, _≤_, _<_}
 use mathlib.Core.Path.{_≡_, refl, sym, ap, _∙_}
-use mathlib.Core.Bool.{true, false, cond, _&&_, true≢false, false≢true}
+use mathlib.Core.Bool.{true, false, cond, _&&_}
 use mathlib.Core.Option.{Option, none, some}
 use mathlib.Core.List.{List, [], _∷_, _++_}
 use native.Mathlib.Omega.{arith}
@@ -16,19 +16,11 @@ use Rattle.model.specs.Limits.{max-line, max-number}
 use Rattle.model.specs.Columns.{Device}
 use Rattle.model.specs.Sheet.{with-some, fields, natural-field, kind-letter, kind-letters, kinds-field, device-line}
 use Rattle.line.specs.Fields.{word, after, natural-at}
-use Rattle.line.specs.Device.{Says, known, or-zero, kind-or-zero, kinds-of, rows-of, kinds-left}
+use Rattle.line.specs.Device.{known, or-zero, kind-or-zero, kinds-of, rows-of, kinds-left}
 use Rattle.line.specs.Laws.Fields.{cond-same, and-right, start, field-is, fields-more, fields-less, field-part}
 use Rattle.line.specs.Laws.Calls.{natural-lost}
 use Rattle.line.specs.declared.device.Rows.the-variants as rows
 use Rattle.line.specs.declared.fields.Natural.the-variants as nat
-
--- ---- what a test says
-
-pub says-yes : {P : Type 0} → P → Says P true
-says-yes p = record { yes = λ e. p; no = λ e. absurd (true≢false e) }
-
-pub says-no : {P : Type 0} → (P → ⊥) → Says P false
-says-no h = record { yes = λ e. absurd (false≢true e); no = λ e. h }
 
 -- ---- letters
 
