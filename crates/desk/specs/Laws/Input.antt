@@ -1,4 +1,4 @@
--- Where lines end. Assumes nothing.
+-- Where lines end, and what the first three lead to. Assumes nothing.
 use Prim.Native.Nat.{ℕ, suc, _+_, _-_, _≤_, _<_}
 use Prim.Native.Char.{code}
 use mathlib.Core.Path.{_≡_, refl, sym, ap, ap₂, _∙_}
@@ -18,7 +18,7 @@ use Rattle.model.specs.Sheet.{first-names, second-names, device-line}
 use Rattle.model.specs.Record.{record-of}
 use Rattle.model.specs.Calls.{Outcome}
 use Rattle.model.specs.Program.{lines, longer, same-line, says, with-device, first, second, third, on-lines}
-use Rattle.model.specs.Laws.Bounded.{and-to}
+use Rattle.model.specs.Laws.Bounded.{and-to, is-false}
 use Rattle.model.specs.Laws.OnRecord.{new-done, new-bad-device}
 use Rattle.model.specs.Laws.Kept.{within-new}
 use Rattle.model.specs.Columns.{Device, device-ok}
@@ -30,7 +30,7 @@ use Rattle.desk.specs.declared.input.Begun.{Begun}
 use Rattle.desk.specs.declared.input.Begun.the-variants as begun
 use Rattle.desk.specs.Desk.{Card}
 use Rattle.desk.specs.Input.{line-of, Ends, Opens, Opened, rest-of, Begins, after-names}
-use Rattle.desk.specs.Laws.Lines.{card-of}
+use Rattle.desk.specs.Laws.Card.{card-of}
 
 -- ---- the loop that looks for the newline
 
@@ -123,13 +123,10 @@ same-of [] = refl
 same-of (x ∷ l) = rw (eq-eqb x x refl, same-of l)
 
 same-not : (l m : List ℕ) → (l ≡ m → ⊥) → same-line l m ≡ false
-same-not l m h = go (same-line l m) refl
-  where
-    go : (t : Bool) → same-line l m ≡ t → t ≡ false
-    go true e = absurd (h (same-to l m e))
-    go false e = refl
+same-not l m h = is-false (same-line l m) (λ e. h (same-to l m e))
 
-lines-none : (s : List ℕ) (at : ℕ) → length s ≤ at → lines (drop at s) ≡ []
+-- no line starts past the end
+pub lines-none : (s : List ℕ) (at : ℕ) → length s ≤ at → lines (drop at s) ≡ []
 unfolding lines
 lines-none s at h = rw (drop-of-length-le s h)
 
@@ -187,7 +184,7 @@ module _ (r : List ℕ) (size : length r ≡ record-size) (ls : List (List ℕ))
   second-refused none a r′ c h = ap (says 2) (sym c)
   second-refused (some d) a r′ c h = by-device d (device-ok d) refl a r′ c h
 
-  opened : (d : Device) (r′ : List ℕ) → r′ ≡ record-of d [] → Card r′ → (b : Begun) → Opened b d r′
+  opened : (d : Device) (r′ : List ℕ) → r′ ≡ record-of d [] → device-ok d ≡ true → (b : Begun) → Opened b d r′
   opened d r′ e k (begun.Ready at) = (e, k)
   opened d r′ e k (begun.Fault line answer) = tt
 
@@ -199,7 +196,7 @@ module _ (r : List ℕ) (size : length r ≡ record-size) (ls : List (List ℕ))
       go : (t : Bool) → device-ok d ≡ t → (x : Device) × Opened b x r′ × (cond t (third d ls) (says 2 (negsuc 2)) ≡ rest-of b x input)
       go true e =
           let is : r′ ≡ record-of d [] = c .record-is ∙ ap (λ (o : Outcome (List ℕ)). o .state) (new-done r (d .rows) (d .kinds) size e) in
-          (d, opened d r′ is (rw is (card-of d [] (within-new d e))) b, f d)
+          (d, opened d r′ is e b, f d)
       go false e =
           let bad : a ≡ negsuc 2 = c .answer-is ∙ ap (λ (o : Outcome (List ℕ)). o .answer) (new-bad-device r (d .rows) (d .kinds) size e) in
           let z : _≡_ {A = ℕ} 0 1 = cc bad in
@@ -216,5 +213,5 @@ not-long s h = rw (le-ltb _ _ h)
 
 -- where the fourth line is reached, there is a card
 pub ready-card : (b : Begun) {n : ℕ} (input card output : List ℕ) → b ≡ begun.Ready n → Begins b input card output → Card card
-ready-card (begun.Ready at) input card output e x = x .1 .1
+ready-card (begun.Ready at) input card output e (d, (is, ok), o) = rw is (card-of d [] (within-new d ok))
 ready-card (begun.Fault line answer) input card output e x = let z : _≡_ {A = ℕ} 0 1 = cc in absurd (omega arith)

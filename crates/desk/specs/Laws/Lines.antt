@@ -26,28 +26,20 @@ use Rattle.model.specs.Sheet.{SheetCall, empty-draft, list-draft, choose-draft,
 use Rattle.model.specs.Program.{Desk, Left, says, answered, listed, on-call, on-read, on-line}
 use Rattle.model.specs.Program as program
 use Rattle.model.specs.Laws.Parts.{splice, length-splice}
-use Rattle.model.specs.Laws.Step.{same-step}
 use Rattle.model.specs.Laws.Kept.{kept}
-use Rattle.model.specs.Laws.ReadBack.{device-of-record, book-of-record}
 use Rattle.line.specs.Block.{block-bytes}
 use Rattle.line.specs.Laws.Block.{bits-small}
 use Rattle.line.specs.Calls.{call-said}
 use Rattle.line.specs.declared.call.BlockCall.{BlockCall}
 use Rattle.line.specs.declared.call.Call.the-variants.{Block}
 use Rattle.desk.specs.Desk.{draft-room, desk-of, Shows, Drafted, Card, Leaves, Answers, Adds}
+use Rattle.desk.specs.Laws.Card.{card-of, on-card}
 use Rattle.desk.specs.Laws.Shows.{shows-none}
-
--- the record of a device and a book within the limits is a card
-pub card-of : (d : Device) (b : Book) → within d b ≡ true → Card (record-of d b)
-card-of d b w = record { within = rw (device-of-record d b w, book-of-record d b w) w; is = rw (device-of-record d b w, book-of-record d b w) }
 
 module _ (r : List ℕ) (k : Card r) (number : ℕ) (t draft : List ℕ) (used : ℕ) (e : take used draft ≡ t) (f : Drafted draft used) where
   -- a line that leaves the card and the draft
   pub leaves-same : {p out : List ℕ} {printed : ℕ} → Shows out printed p → Leaves (record { printed = p; desk = desk-of r t }) r draft used out printed
   leaves-same s = record { card-is = k .is; draft-is = e; printed-is = s; is-card = k; drafted = f }
-
-  on-card : (c : Call) → on-record r c ≡ written (device-of r) (on-book (device-of r) (book-of r) c)
-  on-card c = ap (λ (x : List ℕ). on-record x c) (k .is) ∙ same-step (device-of r) (book-of r) c (k .within)
 
   -- a call that may change the card
   pub leaves-answered : (c : Call) {r′ out : List ℕ} {printed : ℕ} → Answers (on-record r c) number r′ out printed
@@ -55,11 +47,11 @@ module _ (r : List ℕ) (k : Card r) (number : ℕ) (t draft : List ℕ) (used :
   unfolding written
   leaves-answered c {r′} {out} {printed} a =
       let b = on-book (device-of r) (book-of r) c .state in
-      let is : r′ ≡ record-of (device-of r) b = a .card-is ∙ ap (λ (x : Outcome (List ℕ)). x .state) (on-card c) in
+      let is : r′ ≡ record-of (device-of r) b = a .card-is ∙ ap (λ (x : Outcome (List ℕ)). x .state) (on-card r k c) in
       record {
         card-is = is;
         draft-is = e;
-        printed-is = rw (on-card c) at (a .printed-is);
+        printed-is = rw (on-card r k c) at (a .printed-is);
         is-card = rw is (card-of (device-of r) b (kept (device-of r) (book-of r) c (k .within)));
         drafted = f;
       }
@@ -79,7 +71,7 @@ module _ (r : List ℕ) (k : Card r) (number : ℕ) (t draft : List ℕ) (used :
   leaves-chosen s = record {
     card-is = k .is ∙ ap (record-of (device-of r)) (sym chosen-state);
     draft-is = e;
-    printed-is = rw (on-card (choose t)) at s;
+    printed-is = rw (on-card r k (choose t)) at s;
     is-card = k;
     drafted = f;
   }
