@@ -15,6 +15,7 @@ use Rattle.model.specs.Listing.{Range}
 use Rattle.model.specs.Calls.{Outcome}
 use Rattle.model.specs.Sheet.{output-line}
 use Rattle.model.specs.Program.{Desk, Left, says, on-call}
+use Rattle.line.specs.Print.{line-room}
 use Rattle.line.specs.Calls.{call-said}
 use Rattle.line.specs.declared.call.BlockCall.{BlockCall}
 use Rattle.line.specs.declared.call.Call.the-variants.{Block}
@@ -22,10 +23,6 @@ use Rattle.line.specs.declared.call.Call.the-variants.{Block}
 -- "A task is 1 to 32 blocks of 6 bytes": the bytes of the greatest draft
 abbrev pub draft-room : ℕ
 draft-room = block-size * max-blocks
-
--- the bytes that one line of output needs at most
-abbrev pub line-room : ℕ
-line-room = 80
 
 -- the bytes that the longest output of one line of input needs: a line for each range that a listing has room for
 abbrev pub output-room : ℕ

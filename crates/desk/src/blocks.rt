@@ -6,7 +6,8 @@ use line::call::BlockCall;
 ghost use mathlib.Core.Path.{_≡_};
 ghost use Prim.Native.Nat.{_≤_};
 ghost use lib.ListN.{length};
-ghost use Rattle.desk.specs.Desk.{line-room, Drafted, Adds};
+ghost use Rattle.line.specs.Print.{line-room};
+ghost use Rattle.desk.specs.Desk.{Drafted, Adds};
 
 // What a line leaves: how many bytes the draft has, and how many bytes were printed.
 pub struct Left {

@@ -4,7 +4,8 @@ ghost use lib.ListN.{length};
 ghost use Rattle.model.specs.Calls.{choose, place, release};
 ghost use Rattle.model.specs.Program.{says};
 ghost use Rattle.model.specs.OnRecord.{on-record};
-ghost use Rattle.desk.specs.Desk.{line-room, Shows, Answers};
+ghost use Rattle.line.specs.Print.{line-room};
+ghost use Rattle.desk.specs.Desk.{Shows, Answers};
 use crate::output;
 
 // C: the best position of the draft.

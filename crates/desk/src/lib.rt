@@ -8,6 +8,7 @@ mod ranges; // L
 pub mod lines; // a line from the fourth on
 
 pub use blocks::Left;
+pub use line::LINE_ROOM;
 pub use output::names;
 pub use output::say;
 
@@ -17,11 +18,8 @@ pub const MAX_SHEET: usize = 32768;
 // The bytes of the greatest draft.
 pub const DRAFT_ROOM: usize = model::BLOCK_SIZE * model::MAX_BLOCKS;
 
-// The bytes that one line of output needs at most.
-pub const LINE_ROOM: usize = 80;
-
 // The bytes that the longest output of one line of input needs: a line for each range that a listing has room for.
-pub const OUTPUT_ROOM: usize = LINE_ROOM * (model::LIST_ROOM / model::RANGE_SIZE);
+pub const OUTPUT_ROOM: usize = line::LINE_ROOM * (model::LIST_ROOM / model::RANGE_SIZE);
 
 // A 33rd block's refusal.
 pub const TOO_MANY_BLOCKS: i32 = -4;

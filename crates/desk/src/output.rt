@@ -2,8 +2,8 @@
 ghost use Prim.Native.Nat.{_≤_};
 ghost use lib.ListN.{length};
 ghost use Rattle.model.specs.Program.{says};
-ghost use Rattle.line.specs.Print.{names-line};
-ghost use Rattle.desk.specs.Desk.{line-room, Shows};
+ghost use Rattle.line.specs.Print.{names-line, line-room};
+ghost use Rattle.desk.specs.Desk.{Shows};
 
 // The names line.
 pub fn names(out: &mut [u8]) -> usize

@@ -6,8 +6,8 @@ ghost use Rattle.model.specs.Limits.{range-size};
 ghost use Rattle.model.specs.Laws.RangeBytes.{ranges-in};
 ghost use Rattle.model.specs.Sheet.{list-draft};
 ghost use Rattle.model.specs.Program.{shows, on-call};
-ghost use Rattle.line.specs.Print.{Printed};
-ghost use Rattle.desk.specs.Desk.{line-room, desk-of, Shows, Card, Room, range-at, range-line};
+ghost use Rattle.line.specs.Print.{Printed, line-room};
+ghost use Rattle.desk.specs.Desk.{desk-of, Shows, Card, Room, range-at, range-line};
 use crate::output;
 
 // The line of output of range i, printed from byte `at` on.

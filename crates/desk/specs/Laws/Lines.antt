@@ -7,28 +7,22 @@ use mathlib.Core.List.{List, [], _∷_, _++_, append-assoc}
 use native.Mathlib.Omega.{arith}
 use lib.Dec.{ltb}
 use lib.IntN.{ℤ, pos, negsuc, negℤ}
-use lib.Signed.{mag}
 use lib.ListN.{length, replicate, take, drop, length-append, length-drop}
 use lib.Seq.{take-at, length-take-le}
-use mir.Syntax.{w16}
-use mir.Val.{ofZ}
 use borrow.Author.Tests.{lt-ltb, le-ltb}
 use Rattle.model.specs.Limits.{block-size, max-blocks, list-room}
 use Rattle.model.specs.Columns.{Device}
 use Rattle.model.specs.Tasks.{blocks}
 use Rattle.model.specs.Book.{Book}
-use Rattle.model.specs.Kinds.{number-of}
 use Rattle.model.specs.Record.{record-of, device-of, book-of, bytes16}
 use Rattle.model.specs.Sound.{within}
 use Rattle.model.specs.Calls.{Call, list, choose, place, release, Outcome, refused, refusals, unless, lent, done, on-book}
 use Rattle.model.specs.OnRecord.{written, on-record}
 use Rattle.model.specs.Sheet.{SheetCall, empty-draft, list-draft, choose-draft, place-draft, release-task, sheet-line}
-use Rattle.model.specs.Program.{Desk, Left, says, answered, listed, on-call, on-read, on-line}
-use Rattle.model.specs.Program as program
+use Rattle.model.specs.Program.{Desk, Left, says, block-bytes, answered, listed, on-call, on-read, on-line}
 use Rattle.model.specs.Laws.Parts.{splice, length-splice}
 use Rattle.model.specs.Laws.Kept.{kept}
-use Rattle.line.specs.Block.{block-bytes}
-use Rattle.line.specs.Laws.Block.{bits-small}
+use Rattle.line.specs.Block.{call-bytes}
 use Rattle.line.specs.Calls.{call-said}
 use Rattle.line.specs.declared.call.BlockCall.{BlockCall}
 use Rattle.line.specs.declared.call.Call.the-variants.{Block}
@@ -112,27 +106,19 @@ take-splice r at v h l =
     rw (← append-assoc (take at r) v (drop block-size (drop at r)))
     (take-at (take at r ++ v) (drop block-size (drop at r)) (at + block-size) (rw length-append (omega (arith, length-take-le at r h))))
 
--- the block's bytes as the model has them
-model-bytes : (b : BlockCall) → mag (b .bottom) < 32768 → mag (b .top) < 32768 → block-bytes b ≡ program.block-bytes (b .column) (number-of (b .kind)) (b .bottom) (b .top)
-unfolding program.block-bytes bytes16
-model-bytes b h k =
-    let x : ofZ w16 (b .bottom) / 256 % 256 ≡ ofZ w16 (b .bottom) / 256 = omega (arith, bits-small (b .bottom) h) in
-    let y : ofZ w16 (b .top) / 256 % 256 ≡ ofZ w16 (b .top) / 256 = omega (arith, bits-small (b .top) k) in
-    rw (x, y)
-
 module _ (draft : List ℕ) (used number : ℕ) (b : BlockCall) (f : Drafted draft used) where
   -- room for one block more
-  pub adds-block : {out draft′ : List ℕ} → mag (b .bottom) < 32768 → mag (b .top) < 32768 → used < draft-room
-      → draft′ ≡ splice draft used block-size (block-bytes b) → Adds draft used number b draft′ out (used + block-size) 0
-  unfolding on-call blocks
-  adds-block {out} {draft′} x y h e =
+  pub adds-block : {out draft′ : List ℕ} → used < draft-room
+      → draft′ ≡ splice draft used block-size (call-bytes b) → Adds draft used number b draft′ out (used + block-size) 0
+  unfolding on-call blocks block-bytes bytes16
+  adds-block {out} {draft′} h e =
       let l : length (take used draft) ≡ used = length-take-le used draft (omega arith) in
       let few : length (take used draft) / block-size < max-blocks = omega arith in
       let fits : used + block-size ≤ length draft = omega arith in
       record {
-        draft-is = λ d k. rw (lt-ltb _ _ few) (ap (take (used + block-size)) e ∙ take-splice draft used (block-bytes b) (omega arith) refl ∙ ap (λ (t : List ℕ). take used draft ++ t) (model-bytes b x y));
+        draft-is = λ d k. rw (lt-ltb _ _ few) (ap (take (used + block-size)) e ∙ take-splice draft used (call-bytes b) (omega arith) refl);
         printed-is = λ d k. rw (lt-ltb _ _ few) (shows-none out);
-        drafted = record { room = rw (e, length-splice draft used block-size (block-bytes b) fits refl) (f .room); most = omega arith; whole = omega arith };
+        drafted = record { room = rw (e, length-splice draft used block-size (call-bytes b) fits refl) (f .room); most = omega arith; whole = omega arith };
       }
 
   -- a 33rd block
@@ -160,7 +146,7 @@ leaves-added r k draft used number b a = record {
 }
   where
     x : Left
-    x = record { printed = []; desk = desk-of r (take used draft ++ program.block-bytes (b .column) (number-of (b .kind)) (b .bottom) (b .top)) }
+    x = record { printed = []; desk = desk-of r (take used draft ++ call-bytes b) }
 
     y : Left
     y = record { printed = says number (negℤ (pos 4)); desk = desk-of r (take used draft) }

@@ -1,6 +1,5 @@
 -- `desk::blocks::add_block` meets its contract: six bytes behind the draft, or a 33rd block's refusal. Assumes nothing.
-use borrow.Author.Needs.{needs, sfits-of}
-use mir.Syntax.{w16}
+use borrow.Author.Needs.{needs}
 use native.Mathlib.Omega.{arith}
 use Rattle.desk.specs.Laws.Lines.{adds-block, adds-none}
 use Rattle.desk.proofs.blocks.add_block.Statement.{statement}
@@ -11,10 +10,7 @@ returns c =
     let p = c .before .before .before in
     let t = p .before .before in
     let s = t .before .before .before in
-    let g = s .good .1 .1 .1 .0 in
-    let bottom = sfits-of {w = w16} {z = s .args .block .bottom} (g .1 .1 .1 .1 .0 .1) in
-    let top = sfits-of {w = w16} {z = s .args .block .top} (g .1 .1 .1 .1 .1 .0 .1) in
-    rw (c .leave .ensures .0, c .leave .ensures .1) (adds-block _ _ _ _ (s .pre .0) (bottom .sfits) (top .sfits) (t .if1 .taken) (p .put-block .ensures))
+    rw (c .leave .ensures .0, c .leave .ensures .1) (adds-block _ _ _ _ (s .pre .0) (t .if1 .taken) (p .put-block .ensures))
 
 returns-2 : tie.Need-returns-2
 returns-2 c =

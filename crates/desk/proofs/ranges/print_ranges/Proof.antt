@@ -9,9 +9,8 @@ use mir.Val.{toZ, ofZ}
 use mir.Facts.{toZ-ofZ}
 use Rattle.model.specs.Laws.RangeBytes.{ranges-in}
 use Rattle.model.specs.Program.{shows}
-use Rattle.line.specs.Print.{Printed}
+use Rattle.line.specs.Print.{Printed, line-room}
 use Rattle.line.specs.Laws.Print.{printed-more}
-use Rattle.desk.specs.Desk.{line-room}
 use Rattle.desk.specs.Laws.Shows.{printed-none, shows-printed}
 use Rattle.desk.specs.Laws.Listing.{shows-more}
 use Rattle.desk.proofs.ranges.print_ranges.Statement.{statement}
