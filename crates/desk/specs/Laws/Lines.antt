@@ -1,25 +1,23 @@
 -- What a line leaves, by the call that it makes. Assumes nothing.
-use Prim.Native.Nat.{ℕ, _+_, _*_, _/_, _%_, _≤_, _<_}
+use Prim.Native.Nat.{ℕ, _+_, _/_, _≤_, _<_}
 use mathlib.Core.Path.{_≡_, refl, sym, ap, _∙_}
 use mathlib.Core.Bool.{Bool, true, false, cond}
 use mathlib.Core.Option.{Option, none, some}
-use mathlib.Core.List.{List, [], _∷_, _++_, append-assoc}
+use mathlib.Core.List.{List, [], _++_, append-assoc}
 use native.Mathlib.Omega.{arith}
 use lib.Dec.{ltb}
 use lib.IntN.{ℤ, pos, negsuc, negℤ}
-use lib.ListN.{length, replicate, take, drop, length-append, length-drop}
+use lib.ListN.{length, replicate, take, drop, length-append}
 use lib.Seq.{take-at, length-take-le}
 use borrow.Author.Tests.{lt-ltb, le-ltb}
 use Rattle.model.specs.Limits.{block-size, max-blocks, list-room}
-use Rattle.model.specs.Columns.{Device}
 use Rattle.model.specs.Tasks.{blocks}
-use Rattle.model.specs.Book.{Book}
 use Rattle.model.specs.Record.{record-of, device-of, book-of, bytes16}
 use Rattle.model.specs.Sound.{within}
-use Rattle.model.specs.Calls.{Call, list, choose, place, release, Outcome, refused, refusals, unless, lent, done, on-book}
+use Rattle.model.specs.Calls.{Call, list, choose, Outcome, refused, refusals, unless, lent, done, on-book}
 use Rattle.model.specs.OnRecord.{written, on-record}
-use Rattle.model.specs.Sheet.{SheetCall, empty-draft, list-draft, choose-draft, place-draft, release-task, sheet-line}
-use Rattle.model.specs.Program.{Desk, Left, says, block-bytes, answered, listed, on-call, on-read, on-line}
+use Rattle.model.specs.Sheet.{SheetCall, empty-draft, list-draft, choose-draft, sheet-line}
+use Rattle.model.specs.Program.{Desk, Left, says, block-bytes, answered, listed, on-call, on-line}
 use Rattle.model.specs.Laws.Parts.{splice, length-splice}
 use Rattle.model.specs.Laws.Kept.{kept}
 use Rattle.line.specs.Block.{call-bytes}

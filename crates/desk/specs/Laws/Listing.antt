@@ -1,5 +1,5 @@
 -- A listing printed: its ranges read back from the bytes, and its answer. Assumes nothing.
-use Prim.Native.Nat.{ℕ, zero, suc, _+_, _-_, _*_, _≤_, _<_}
+use Prim.Native.Nat.{ℕ, zero, suc, _+_, _-_, _*_, _≤_}
 use mathlib.Core.Path.{_≡_, refl, sym, ap, _∙_}
 use mathlib.Core.Logic.{_⊎_, inl, inr}
 use mathlib.Core.Bool.{Bool, true, false, not}
@@ -7,28 +7,26 @@ use mathlib.Core.Option.{Option, none, some}
 use mathlib.Core.List.{List, [], _∷_, _++_, append-nil}
 use native.Mathlib.Numerals.{add-one}
 use native.Mathlib.Omega.{arith}
-use native.Mathlib.Nat.{add-zero}
 use lib.Dec.{ltb, leb·suc-zero}
 use lib.IntN.{ℤ, pos, negsuc, natAbs}
 use lib.Signed.{ltZ}
-use lib.ListN.{length, getD, take, drop, replicate, length-append, length-drop, length-replicate}
+use lib.ListN.{length, drop, replicate, length-append, length-replicate}
 use lib.Seq.{getD-drop}
-use borrow.Author.Tests.{le-ltb}
 use Rattle.model.specs.Limits.{range-size, list-room}
 use Rattle.model.specs.Bounded.{join-in}
 use Rattle.model.specs.Columns.{Device}
 use Rattle.model.specs.Tasks.{word, sized, well-formed}
 use Rattle.model.specs.Book.{Book}
 use Rattle.model.specs.Listing.{Range, ranges}
-use Rattle.model.specs.Record.{record-of, device-of, book-of, bytes16}
+use Rattle.model.specs.Record.{device-of, book-of, bytes16}
 use Rattle.model.specs.Sound.{within}
-use Rattle.model.specs.Calls.{Call, list, Outcome, Refusal, refuse, refused, refusals, no-position, unless, lent, done, on-book, range-bytes, over}
+use Rattle.model.specs.Calls.{list, Outcome, refuse, refused, refusals, no-position, unless, lent, done, on-book, range-bytes, over}
 use Rattle.model.specs.OnRecord.{written, on-record}
-use Rattle.model.specs.Sheet.{list-draft, output-line}
-use Rattle.model.specs.Program.{Desk, says, shows, listed, on-call}
+use Rattle.model.specs.Sheet.{list-draft}
+use Rattle.model.specs.Program.{says, shows, listed, on-call}
 use Rattle.model.specs.Laws.Listing.{join-append}
 use Rattle.model.specs.Laws.RangeBytes.{ranges-in, read-ranges}
-use Rattle.desk.specs.Desk.{desk-of, Card, Room, range-at, range-line}
+use Rattle.desk.specs.Desk.{desk-of, Card, range-at, range-line}
 use Rattle.desk.specs.Laws.Card.{on-card}
 
 -- ---- one range more

@@ -1,7 +1,7 @@
 -- THEOREM `program-done`: what the contracts of `desk` say of one line after the other is the model's program. A run of the program is the names line, what
 -- `begin` leads to, and a turn for each line from the fourth on; a turn is what `line_end` and `on_line` leave. Assumes nothing.
-use Prim.Native.Nat.{ℕ, suc, _+_, _-_, _≤_}
-use mathlib.Core.Path.{_≡_, refl, sym, ap, _∙_}
+use Prim.Native.Nat.{ℕ, _+_, _-_, _≤_}
+use mathlib.Core.Path.{_≡_, sym, ap, _∙_}
 use mathlib.Core.Bool.{Bool, true, false, cond}
 use mathlib.Core.Option.{Option, none, some}
 use mathlib.Core.List.{List, [], _∷_, _++_}
@@ -10,9 +10,7 @@ use lib.Dec.{ltb}
 use lib.IntN.{ℤ, pos, negsuc, negℤ}
 use lib.ListN.{length, take, drop, replicate}
 use Rattle.model.specs.Limits.{max-blocks, list-room}
-use Rattle.model.specs.Columns.{Device}
 use Rattle.model.specs.Tasks.{blocks}
-use Rattle.model.specs.Record.{record-of}
 use Rattle.model.specs.Sound.{within}
 use Rattle.model.specs.Calls.{list, choose, place, release, on-book}
 use Rattle.model.specs.Sheet.{SheetCall, add-block, empty-draft, list-draft, choose-draft, place-draft, release-task, sheet-line}

@@ -1,7 +1,7 @@
 -- `desk::input::first` meets its contract. Assumes nothing.
 use borrow.Author.Needs.{needs}
 use borrow.Author.Tests.{not-true, not-false}
-use mathlib.Core.Path.{_≡_, _∙_}
+use mathlib.Core.Path.{_∙_}
 use Rattle.desk.specs.Laws.Input.{no-device, first-none, first-wrong, first-right}
 use Rattle.desk.proofs.input.first.Statement.{statement}
 use Rattle.desk.proofs.input.first.Tie as tie

@@ -1,6 +1,6 @@
 -- `desk::lines::on_call` meets its contract: one law for each call. Assumes nothing.
 use borrow.Author.Needs.{needs, sfits-of}
-use mathlib.Core.Path.{_≡_, refl, sym}
+use mathlib.Core.Path.{refl, sym}
 use native.Mathlib.Omega.{arith}
 use lib.ListN.{take}
 use lib.Seq.{length-take-le}

@@ -1,6 +1,6 @@
 -- `desk::lines::on_line` meets its contract: a malformed line, or a line's call. Assumes nothing.
 use borrow.Author.Needs.{needs}
-use mathlib.Core.Path.{_≡_, refl, sym, ap, _∙_}
+use mathlib.Core.Path.{refl, sym, ap, _∙_}
 use lib.ListN.{take}
 use Rattle.line.specs.Calls.{said}
 use Rattle.desk.specs.Desk.{desk-of}

@@ -1,7 +1,7 @@
 -- `desk::ranges::print_ranges` meets its contract. The invariant: the lines of the first i ranges are printed. Assumes nothing.
 use borrow.Author.Needs.{needs}
-use mathlib.Core.Path.{_≡_, refl, sym, _∙_}
-use Prim.Native.Nat.{_≤_, _+_, _*_, _-_}
+use mathlib.Core.Path.{_≡_, refl, _∙_}
+use Prim.Native.Nat.{_≤_, _*_, _-_}
 use native.Mathlib.Omega.{arith}
 use lib.ListN.{length}
 use mir.Syntax.{w32}
