@@ -1,11 +1,10 @@
 -- The input's lines, and what its first three lead to. Assumes nothing.
 use Prim.Native.Nat.{ℕ, _+_, _-_, _≤_}
-use Prim.Native.Char.{code}
 use mathlib.Core.Path.{_≡_}
 use mathlib.Core.Bool.{true, cond}
 use mathlib.Core.Option.{Option, none, some}
 use mathlib.Core.List.{List, [], _∷_}
-use lib.Dec.{ltb, eqb}
+use lib.Dec.{ltb}
 use lib.IntN.{ℤ, pos, negℤ}
 use lib.ListN.{length, take, drop}
 use Rattle.model.specs.Limits.{max-sheet}
@@ -16,11 +15,6 @@ use Rattle.model.specs.Program.{says, malformed, first, on-lines, lines}
 use Rattle.card.specs.Leaves.{Changes}
 use Rattle.desk.specs.declared.input.Begun.{Begun}
 use Rattle.desk.specs.declared.input.Begun.the-variants.{Ready, Fault}
-
--- the bytes before the first newline
-unfoldable pub line-of : List ℕ → List ℕ
-line-of [] = []
-line-of (x ∷ s) = let rest = line-of s in cond (eqb x (code "\n")) [] (x ∷ rest)
 
 -- the line that starts at `at` ends at `end`, and the lines after it start at the byte after that
 pub record Ends (input : List ℕ) (at end : ℕ) : Type 0 where

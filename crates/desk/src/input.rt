@@ -23,14 +23,7 @@ pub fn line_end(input: &[u8], at: usize) -> usize
     requires { ⌜ at < length (now input) ⌝ }
     ensures { λ r. ⌜ Ends (now (input .entry)) at r ⌝ }
 {
-    let mut i = at;
-    while i < input.len() {
-        if input[i] == b'\n' {
-            return i;
-        }
-        i += 1;
-    }
-    i
+    line::fields::end_before(input, at, b'\n')
 }
 
 // The card of the second line: what new answers, or that the line is malformed.

@@ -3,7 +3,7 @@ ghost use mathlib.Core.Path.{_≡_};
 ghost use lib.ListN.{length, drop};
 ghost use Prim.Native.Nat.{_+_, _≤_, _<_};
 ghost use Rattle.model.specs.Sheet.{natural, number, kind-letter};
-ghost use Rattle.line.specs.Fields.{word, most-read, capped, capped-number, digits-of, byte-at, natural-at, height-at, kind-said};
+ghost use Rattle.line.specs.Fields.{until, word, most-read, capped, capped-number, digits-of, byte-at, natural-at, height-at, kind-said};
 use crate::MAX_HEIGHT_FIELD;
 use crate::MIN_HEIGHT_FIELD;
 use model::Kind;
@@ -42,19 +42,27 @@ pub enum Height {
     Bad,
 }
 
-// Where the field that starts at `at` ends.
-pub fn field_end(line: &[u8], at: usize) -> usize
-    requires { ⌜ at ≤ length (now line) ⌝ }
-    ensures { λ r. ⌜ (r ≡ at + length (word (drop at (now (line .entry))))) × (r ≤ length (now (line .entry))) ⌝ }
+// Where the next `byte` from `at` on stands: the end, if there is none.
+pub fn end_before(text: &[u8], at: usize, byte: u8) -> usize
+    requires { ⌜ at ≤ length (now text) ⌝ }
+    ensures { λ r. ⌜ (r ≡ at + length (until byte (drop at (now (text .entry))))) × (r ≤ length (now (text .entry))) ⌝ }
 {
     let mut i = at;
-    while i < line.len() {
-        if line[i] == b' ' {
+    while i < text.len() {
+        if text[i] == byte {
             return i;
         }
         i += 1;
     }
     i
+}
+
+// Where the field that starts at `at` ends.
+pub fn field_end(line: &[u8], at: usize) -> usize
+    requires { ⌜ at ≤ length (now line) ⌝ }
+    ensures { λ r. ⌜ (r ≡ at + length (word (drop at (now (line .entry))))) × (r ≤ length (now (line .entry))) ⌝ }
+{
+    end_before(line, at, b' ')
 }
 
 // The digits from `from` to the end. No field needs a number above 99,999, so a greater one counts as none.

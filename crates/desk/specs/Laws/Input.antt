@@ -1,17 +1,17 @@
 -- Where lines end, and what the first three lead to. Assumes nothing.
 use Prim.Native.Nat.{ℕ, suc, _+_, _-_, _≤_, _<_}
+use Prim.Native.Char.{code}
 use mathlib.Core.Path.{_≡_, refl, sym, ap, ap₂, _∙_}
 use mathlib.Core.Bool.{Bool, true, false, cond}
 use mathlib.Core.Option.{Option, none, some}
 use mathlib.Core.List.{List, [], _∷_}
-use native.Mathlib.Numerals.{add-one}
 use native.Mathlib.Omega.{arith}
 use lib.Dec.{eqb}
 use lib.IntN.{ℤ, pos, negsuc}
 use lib.Signed.{ltZ}
-use lib.ListN.{length, getD, take, drop, drop-of-length-le, length-drop, length-append}
-use lib.Seq.{drop-cons, drop-drop, take-at}
-use borrow.Author.Tests.{eq-eqb, ne-eqb, eqb-true, lt-ltb, le-ltb}
+use lib.ListN.{length, take, drop, drop-of-length-le, length-drop, length-append}
+use lib.Seq.{drop-drop, take-at}
+use borrow.Author.Tests.{eq-eqb, eqb-true, lt-ltb, le-ltb}
 use Rattle.model.specs.Limits.{record-size, max-sheet}
 use Rattle.model.specs.Sheet.{first-names, second-names, device-line}
 use Rattle.model.specs.Record.{record-of}
@@ -22,31 +22,21 @@ use Rattle.model.specs.Laws.OnRecord.{new-done, new-bad-device}
 use Rattle.model.specs.Laws.Kept.{within-new}
 use Rattle.model.specs.Columns.{Device, device-ok}
 use Rattle.model.specs.OnRecord.{new}
+use Rattle.line.specs.Fields.{until}
 use Rattle.line.specs.Device.{rows-of, kinds-left}
 use Rattle.line.specs.declared.device.Rows.the-variants as rows
 use Rattle.card.specs.Leaves.{Changes}
 use Rattle.desk.specs.declared.input.Begun.{Begun}
 use Rattle.desk.specs.declared.input.Begun.the-variants as begun
 use Rattle.desk.specs.Desk.{Card}
-use Rattle.desk.specs.Input.{line-of, Ends, Opens, Opened, rest-of, Begins, after-names}
+use Rattle.desk.specs.Input.{Ends, Opens, Opened, rest-of, Begins, after-names}
 use Rattle.desk.specs.Laws.Card.{card-of}
 
--- ---- the loop that looks for the newline
-
-module _ (s : List ℕ) (i : ℕ) (h : i < length s) where
-  pub line-stop : getD s i 0 ≡ 10 → length (line-of (drop i s)) ≡ 0
-  unfolding line-of
-  line-stop e = rw (drop-cons s i 0, eq-eqb _ _ e)
-
-  pub line-step : (getD s i 0 ≡ 10 → ⊥) → length (line-of (drop i s)) ≡ suc (length (line-of (drop (i + 1) s)))
-  unfolding line-of
-  line-step e = rw (drop-cons s i 0, ne-eqb _ _ e, add-one)
-
-pub line-over : (s : List ℕ) (i : ℕ) → length s ≤ i → length (line-of (drop i s)) ≡ 0
-unfolding line-of
-line-over s i h = rw (drop-of-length-le s h)
-
 -- ---- the first line and the others
+
+-- the bytes before the first newline
+abbrev line-of : List ℕ → List ℕ
+line-of s = until (code "\n") s
 
 abbrev Parted : List ℕ → Type 0
 Parted s = lines s ≡ take (length (line-of s)) s ∷ lines (drop (suc (length (line-of s))) s)
@@ -58,7 +48,7 @@ Parted-by t x s =
     ≡ take (length (cond t [] (x ∷ line-of s))) (x ∷ s) ∷ lines (drop (suc (length (cond t [] (x ∷ line-of s)))) (x ∷ s))
 
 parted-last : (t : Bool) (x : ℕ) → Parted-by t x []
-unfolding lines line-of
+unfolding lines until
 parted-last true x = refl
 parted-last false x = refl
 
@@ -67,7 +57,7 @@ parted-more true x s r = refl
 parted-more false x s r = ap (longer x) r
 
 parted : (x : ℕ) (s : List ℕ) → Parted (x ∷ s)
-unfolding lines line-of
+unfolding lines until
 parted x [] = parted-last (eqb x 10) x
 parted x (y ∷ s) = parted-more (eqb x 10) x (y ∷ s) (parted y s)
 
@@ -76,7 +66,7 @@ parted-any [] h = absurd (omega arith)
 parted-any (x ∷ s) h = parted x s
 
 -- the line that starts at `at` is as long as it was found to be
-pub ends : (s : List ℕ) (at end : ℕ) → at < length s → end ≤ length s → end ≡ at + length (line-of (drop at s)) → Ends s at end
+pub ends : (s : List ℕ) (at end : ℕ) → at < length s → end ≤ length s → end ≡ at + length (until (code "\n") (drop at s)) → Ends s at end
 ends s at end h q e =
     let k = length (line-of (drop at s)) in
     let d : end - at ≡ k = omega arith in
