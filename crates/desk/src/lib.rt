@@ -1,5 +1,6 @@
 // The sheet's desk: a card's record and a draft task, and what each line of a sheet does to them and prints.
-// Each function's contract is document 01's line by the book (model/specs/Program.antt); the program `sheet` only reads and writes.
+// Each function's contract is document 01's line by the book (model/specs/Program.antt); that they make up the model's program
+// is `program-done` (specs/Laws/Program.antt). The program `sheet` only reads and writes.
 pub mod input; // where lines end, and the first three lines
 mod output; // the names line, and lines that have only an answer
 mod blocks; // B

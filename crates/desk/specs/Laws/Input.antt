@@ -192,13 +192,13 @@ module _ (r : List ℕ) (size : length r ≡ record-size) (ls : List (List ℕ))
           absurd (omega arith)
 
 -- an input that is too long, and any other
-pub too-long : (s : List ℕ) → max-sheet < length s → after-names s ≡ says 0 (negsuc 11)
+pub sheet-long : (s : List ℕ) → max-sheet < length s → after-names s ≡ says 0 (negsuc 11)
 unfolding after-names
-too-long s h = rw (lt-ltb _ _ h)
+sheet-long s h = rw (lt-ltb _ _ h)
 
-pub not-long : (s : List ℕ) → length s ≤ max-sheet → after-names s ≡ first (lines s)
+pub sheet-short : (s : List ℕ) → length s ≤ max-sheet → after-names s ≡ first (lines s)
 unfolding after-names
-not-long s h = rw (le-ltb _ _ h)
+sheet-short s h = rw (le-ltb _ _ h)
 
 -- where the fourth line is reached, there is a card
 pub ready-card : (b : Begun) {n : ℕ} (input card output : List ℕ) → b ≡ begun.Ready n → Begins b input card output → Card card

@@ -28,59 +28,59 @@ use Rattle.desk.specs.Desk.{draft-room, desk-of, Shows, Drafted, Card, L
 use Rattle.desk.specs.Laws.Card.{card-of, on-card}
 use Rattle.desk.specs.Laws.Shows.{shows-none}
 
-module _ (r : List ℕ) (k : Card r) (number : ℕ) (t draft : List ℕ) (used : ℕ) (e : take used draft ≡ t) (f : Drafted draft used) where
+module _ (r : List ℕ) (k : Card r) (number : ℕ) (draft : List ℕ) (used : ℕ) (f : Drafted draft used) where
   -- a line that leaves the card and the draft
-  pub leaves-same : {p out : List ℕ} {printed : ℕ} → Shows out printed p → Leaves (record { printed = p; desk = desk-of r t }) r draft used out printed
-  leaves-same s = record { card-is = k .is; draft-is = e; printed-is = s; is-card = k; drafted = f }
+  pub leaves-same : {p out : List ℕ} {printed : ℕ} → Shows out printed p → Leaves (record { printed = p; desk = desk-of r (take used draft) }) r draft used out printed
+  leaves-same s = record { card-is = k .is; draft-is = refl; printed-is = s; is-card = k; drafted = f }
 
   -- a call that may change the card
   pub leaves-answered : (c : Call) {r′ out : List ℕ} {printed : ℕ} → Answers (on-record r c) number r′ out printed
-      → Leaves (answered number (desk-of r t) (on-book (device-of r) (book-of r) c)) r′ draft used out printed
+      → Leaves (answered number (desk-of r (take used draft)) (on-book (device-of r) (book-of r) c)) r′ draft used out printed
   unfolding written
   leaves-answered c {r′} {out} {printed} a =
       let b = on-book (device-of r) (book-of r) c .state in
       let is : r′ ≡ record-of (device-of r) b = a .card-is ∙ ap (λ (x : Outcome (List ℕ)). x .state) (on-card r k c) in
       record {
         card-is = is;
-        draft-is = e;
+        draft-is = refl;
         printed-is = rw (on-card r k c) at (a .printed-is);
         is-card = rw is (card-of (device-of r) b (kept (device-of r) (book-of r) c (k .within)));
         drafted = f;
       }
 
   -- choose leaves the card
-  chosen-state : on-book (device-of r) (book-of r) (choose t) .state ≡ book-of r
+  chosen-state : on-book (device-of r) (book-of r) (choose (take used draft)) .state ≡ book-of r
   unfolding on-book done unless
-  chosen-state = go (refused (refusals (device-of r) (book-of r) (choose t)))
+  chosen-state = go (refused (refusals (device-of r) (book-of r) (choose (take used draft))))
     where
-      go : (x : Option ℕ) → unless x (lent (choose t)) (book-of r) (done (device-of r) (book-of r) (choose t)) .state ≡ book-of r
+      go : (x : Option ℕ) → unless x (lent (choose (take used draft))) (book-of r) (done (device-of r) (book-of r) (choose (take used draft))) .state ≡ book-of r
       go none = refl
       go (some n) = refl
 
-  pub leaves-chosen : {out : List ℕ} {printed : ℕ} → Shows out printed (says number (on-record r (choose t) .answer))
-      → Leaves (on-call number (desk-of r t) choose-draft) r draft used out printed
+  pub leaves-chosen : {out : List ℕ} {printed : ℕ} → Shows out printed (says number (on-record r (choose (take used draft)) .answer))
+      → Leaves (on-call number (desk-of r (take used draft)) choose-draft) r draft used out printed
   unfolding on-call written
   leaves-chosen s = record {
     card-is = k .is ∙ ap (record-of (device-of r)) (sym chosen-state);
-    draft-is = e;
-    printed-is = rw (on-card r k (choose t)) at s;
+    draft-is = refl;
+    printed-is = rw (on-card r k (choose (take used draft))) at s;
     is-card = k;
     drafted = f;
   }
 
   -- list leaves the card
-  pub leaves-listed : {out : List ℕ} {printed : ℕ} → Shows out printed (on-call number (desk-of r t) list-draft .printed)
-      → Leaves (on-call number (desk-of r t) list-draft) r draft used out printed
+  pub leaves-listed : {out : List ℕ} {printed : ℕ} → Shows out printed (on-call number (desk-of r (take used draft)) list-draft .printed)
+      → Leaves (on-call number (desk-of r (take used draft)) list-draft) r draft used out printed
   unfolding on-call
-  leaves-listed {out} {printed} s = go (on-book (device-of r) (book-of r) (list t (replicate list-room 0)) .answer) s
+  leaves-listed {out} {printed} s = go (on-book (device-of r) (book-of r) (list (take used draft) (replicate list-room 0)) .answer) s
     where
-      go : (z : ℤ) → Shows out printed (listed number (desk-of r t) z .printed) → Leaves (listed number (desk-of r t) z) r draft used out printed
+      go : (z : ℤ) → Shows out printed (listed number (desk-of r (take used draft)) z .printed) → Leaves (listed number (desk-of r (take used draft)) z) r draft used out printed
       go (pos n) s = leaves-same s
       go (negsuc n) s = leaves-same s
 
   -- a malformed line, and a line that says a call
   pub leaves-malformed : (l : List ℕ) {out : List ℕ} {printed : ℕ} → sheet-line l ≡ none → Shows out printed (says number (negsuc 11))
-      → Leaves (on-line number (desk-of r t) l) r draft used out printed
+      → Leaves (on-line number (desk-of r (take used draft)) l) r draft used out printed
   unfolding on-line
   leaves-malformed l q s = rw q (leaves-same s)
 
@@ -93,7 +93,7 @@ pub leaves-emptied : (r : List ℕ) → Card r → (number : ℕ) (draft : List 
     → Leaves (on-call number (desk-of r t) empty-draft) r draft 0 out 0
 unfolding on-call
 leaves-emptied r k number draft used f t out =
-    leaves-same r k number [] draft 0 refl (record { room = f .room; most = omega arith; whole = refl }) (shows-none out)
+    leaves-same r k number draft 0 (record { room = f .room; most = omega arith; whole = refl }) (shows-none out)
 
 -- ---- a block added
 

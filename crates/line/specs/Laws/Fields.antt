@@ -80,9 +80,9 @@ module _ (s : List ℕ) (i : ℕ) (h : i < length s) where
   unfolding digits-of all-in digit
   too-high v a e = rw (drop-cons s i 0, le-leb 48 (getD s i 0) a, lt-leb (getD s i 0) 57 e)
 
-  pub too-long : (v : ℕ) → 9999 < v → digits-of v (drop i s) ≡ digits.None
+  pub too-great : (v : ℕ) → 9999 < v → digits-of v (drop i s) ≡ digits.None
   unfolding digits-of decimal
-  too-long v e =
+  too-great v e =
       rw (drop-cons s i 0, small-no (decimal (10 * v + (getD s i 0 - 48)) (drop (suc i) s)) (omega (arith, decimal-grows (drop (suc i) s) (10 * v + (getD s i 0 - 48)))))
       (cond-same (all-in digit (getD s i 0 ∷ drop (suc i) s)) digits.None)
 
@@ -99,9 +99,9 @@ module _ (s : List ℕ) (i : ℕ) (h : i < length s) where
   pub natural-led : getD s i 0 ≡ 48 → i + 1 < length s → capped (natural (drop i s)) ≡ digits.None
   natural-led e l = rw (drop-cons s i 0, e, ← add-one i, drop-cons s (i + 1) 0 l) (nought-led (getD s (i + 1) 0) (drop (suc (i + 1)) s))
 
-pub natural-none : (s : List ℕ) (i : ℕ) → length s ≤ i → capped (natural (drop i s)) ≡ digits.None
+pub natural-empty : (s : List ℕ) (i : ℕ) → length s ≤ i → capped (natural (drop i s)) ≡ digits.None
 unfolding natural
-natural-none s i h = rw (drop-of-length-le s h)
+natural-empty s i h = rw (drop-of-length-le s h)
 
 pub until-none : (b : ℕ) (s : List ℕ) (i : ℕ) → length s ≤ i → until b (drop i s) ≡ []
 unfolding until

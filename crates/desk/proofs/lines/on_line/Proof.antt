@@ -1,6 +1,6 @@
 -- `desk::lines::on_line` meets its contract: a malformed line, or a line's call. Assumes nothing.
 use borrow.Author.Needs.{needs}
-use mathlib.Core.Path.{refl, sym, ap, _∙_}
+use mathlib.Core.Path.{sym, ap, _∙_}
 use lib.ListN.{take}
 use Rattle.line.specs.Calls.{said}
 use Rattle.desk.specs.Desk.{desk-of}
@@ -15,7 +15,7 @@ returns c =
     let r = e .before .before in
     let s = r .before .before .before .before .before .before in
     rw (c .leave .ensures .0, c .leave .ensures .1)
-    (leaves-malformed (s .args .card .now) (s .pre .is-card) (s .args .number) (take (s .args .used) (s .args .draft .now)) (s .args .draft .now) (s .args .used) refl (s .pre .drafted) (s .args .line .now) (sym (r .read .ensures) ∙ ap said (e .enum-told .given .1)) (y .say .ensures))
+    (leaves-malformed (s .args .card .now) (s .pre .is-card) (s .args .number) (s .args .draft .now) (s .args .used) (s .pre .drafted) (s .args .line .now) (sym (r .read .ensures) ∙ ap said (e .enum-told .given .1)) (y .say .ensures))
 
 returns-2 : tie.Need-returns-2
 returns-2 c =

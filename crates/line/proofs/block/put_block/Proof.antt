@@ -1,4 +1,4 @@
--- `line::block::put_block` meets its contract: six stores.
+-- `line::block::put_block` meets its contract: six stores. Assumes nothing.
 use borrow.Author.Needs.{needs, sfits-of}
 use mathlib.Core.Path.{_≡_, _∙_}
 use native.Mathlib.Omega.{arith}

@@ -1,4 +1,4 @@
--- `line::block::word` meets its contract.
+-- `line::block::word` meets its contract. Assumes nothing.
 use native.Mathlib.Omega.{arith}
 use mir.Syntax.{w32}
 use mir.Facts.{toZ-ofZ}

@@ -1,4 +1,4 @@
--- `line::device::is_second_names` meets its contract: the text that it compares with is the model's.
+-- `line::device::is_second_names` meets its contract: the text that it compares with is the model's. Assumes nothing.
 use borrow.Author.Needs.{needs}
 use Rattle.line.proofs.device.is_second_names.Statement.{statement}
 use Rattle.line.proofs.device.is_second_names.Tie as tie

@@ -1,4 +1,4 @@
--- `line::fields::end_before` meets its contract. The invariant: the bytes before the next one end where they end from i on.
+-- `line::fields::end_before` meets its contract. The invariant: the bytes before the next one end where they end from i on. Assumes nothing.
 use borrow.Author.Needs.{needs}
 use mathlib.Core.Path.{_≡_}
 use Prim.Native.Nat.{_≤_, _+_, _-_}

@@ -1,4 +1,4 @@
--- `line::print::print_text` meets its contract: a part of the text's length is the text.
+-- `line::print::print_text` meets its contract: a part of the text's length is the text. Assumes nothing.
 use borrow.Author.Needs.{needs}
 use mathlib.Core.Path.{refl}
 use Rattle.line.specs.Laws.Print.{printed-part}
