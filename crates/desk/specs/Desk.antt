@@ -1,5 +1,5 @@
 -- What a line finds and what it leaves: a record, a draft's bytes and an output, by document 01's line by the book. Assumes nothing.
-use Prim.Native.Nat.{ℕ, _+_, _*_, _%_, _≤_}
+use Prim.Native.Nat.{ℕ, _+_, _*_, _/_, _%_, _≤_}
 use mathlib.Core.Path.{_≡_}
 use mathlib.Core.Bool.{true}
 use mathlib.Core.List.{List}
@@ -15,6 +15,7 @@ use Rattle.model.specs.Listing.{Range}
 use Rattle.model.specs.Calls.{Outcome}
 use Rattle.model.specs.Sheet.{output-line}
 use Rattle.model.specs.Program.{Desk, Left, says, on-call}
+use Rattle.line.specs.Print.{line-room}
 use Rattle.line.specs.Calls.{call-said}
 use Rattle.line.specs.declared.call.BlockCall.{BlockCall}
 use Rattle.line.specs.declared.call.Call.the-variants.{Block}
@@ -23,12 +24,9 @@ use Rattle.line.specs.declared.call.Call.the-variants.{Block}
 abbrev pub draft-room : ℕ
 draft-room = block-size * max-blocks
 
--- the bytes that the longest output of one line needs: a line of at most 80 for each of the ranges that a listing has room for
-abbrev pub line-room : ℕ
-line-room = 80
-
+-- the bytes that the longest output of one line of input needs: a line for each range that a listing has room for
 abbrev pub output-room : ℕ
-output-room = 327680
+output-room = line-room * (list-room / range-size)
 
 -- the desk of a record and of a draft's bytes
 abbrev pub desk-of : List ℕ → List ℕ → Desk

@@ -1,26 +1,20 @@
 -- The input's lines, and what its first three lead to. Assumes nothing.
 use Prim.Native.Nat.{ℕ, _+_, _-_, _≤_}
-use Prim.Native.Char.{code}
 use mathlib.Core.Path.{_≡_}
-use mathlib.Core.Bool.{cond}
+use mathlib.Core.Bool.{true, cond}
 use mathlib.Core.Option.{Option, none, some}
 use mathlib.Core.List.{List, [], _∷_}
-use lib.Dec.{eqb}
+use lib.Dec.{ltb}
 use lib.IntN.{ℤ, pos, negℤ}
 use lib.ListN.{length, take, drop}
-use Rattle.model.specs.Columns.{Device}
+use Rattle.model.specs.Limits.{max-sheet}
+use Rattle.model.specs.Columns.{Device, device-ok}
 use Rattle.model.specs.Record.{record-of}
 use Rattle.model.specs.OnRecord.{new}
-use Rattle.model.specs.Program.{says, on-lines, lines}
+use Rattle.model.specs.Program.{says, malformed, first, on-lines, lines}
 use Rattle.card.specs.Leaves.{Changes}
-use Rattle.desk.specs.Desk.{Card}
 use Rattle.desk.specs.declared.input.Begun.{Begun}
 use Rattle.desk.specs.declared.input.Begun.the-variants.{Ready, Fault}
-
--- the bytes before the first newline
-unfoldable pub line-of : List ℕ → List ℕ
-line-of [] = []
-line-of (x ∷ s) = let rest = line-of s in cond (eqb x (code "\n")) [] (x ∷ rest)
 
 -- the line that starts at `at` ends at `end`, and the lines after it start at the byte after that
 pub record Ends (input : List ℕ) (at end : ℕ) : Type 0 where
@@ -38,11 +32,15 @@ abbrev pub rest-of : Begun → Device → List ℕ → List ℕ
 rest-of (Ready at) d input = on-lines 4 (record { device = d; book = []; draft = [] }) (lines (drop at input))
 rest-of (Fault line answer) d input = says line answer
 
--- the card where there is one: that of the device, with no task
+-- the card where there is one: that of a device that new accepts, with no task
 abbrev pub Opened : Begun → Device → List ℕ → Type 0
-Opened (Ready at) d card = (card ≡ record-of d []) × Card card
+Opened (Ready at) d card = (card ≡ record-of d []) × (device-ok d ≡ true)
 Opened (Fault line answer) d card = Unit {0}
 
 -- what the first lines lead to: the output of all lines is what is printed from there on
 abbrev pub Begins : Begun → List ℕ → List ℕ → List ℕ → Type 0
 Begins b input card output = (d : Device) × Opened b d card × (output ≡ rest-of b d input)
+
+-- what the program prints after the names line
+unfoldable pub after-names : List ℕ → List ℕ
+after-names input = cond (ltb max-sheet (length input)) (malformed 0) (first (lines input))

@@ -1,16 +1,27 @@
 // The draft task: a block added, and what a line leaves of it.
 use crate::DRAFT_ROOM;
 use crate::TOO_MANY_BLOCKS;
-use crate::calls;
+use crate::output;
 use line::call::BlockCall;
+ghost use mathlib.Core.Path.{_≡_};
 ghost use Prim.Native.Nat.{_≤_};
 ghost use lib.ListN.{length};
-ghost use Rattle.desk.specs.Desk.{line-room, Drafted, Adds};
+ghost use Rattle.line.specs.Print.{line-room};
+ghost use Rattle.desk.specs.Desk.{Drafted, Adds};
 
 // What a line leaves: how many bytes the draft has, and how many bytes were printed.
-pub struct Step {
+pub struct Left {
     pub used: usize,
     pub printed: usize,
+}
+
+pub fn leave(used: usize, printed: usize) -> Left
+    ensures { λ r. ⌜ (r .used ≡ used) × (r .printed ≡ printed) ⌝ }
+{
+    Left {
+        used: used,
+        printed: printed,
+    }
 }
 
 // B: a block more in the draft, or the refusal of a 33rd block.
@@ -20,20 +31,13 @@ pub fn add_block(
     number: u32,
     block: BlockCall,
     out: &mut [u8],
-) -> Step
+) -> Left
     requires { ⌜ Drafted (now draft) used × (line-room ≤ length (now out)) ⌝ }
     ensures { λ r. ⌜ Adds (now (draft .entry)) used number block (now (draft .exit)) (now (out .exit)) (r .used) (r .printed) ⌝ }
 {
     if used < DRAFT_ROOM {
         line::block::put_block(draft, used, block);
-        return Step {
-            used: used + model::BLOCK_SIZE,
-            printed: 0,
-        };
+        return leave(used + model::BLOCK_SIZE, 0);
     }
-    let printed = calls::say(out, number, TOO_MANY_BLOCKS);
-    Step {
-        used: used,
-        printed: printed,
-    }
+    leave(used, output::say(out, number, TOO_MANY_BLOCKS))
 }

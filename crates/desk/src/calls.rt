@@ -1,22 +1,12 @@
 // The lines that call the card and print one answer.
-
-ghost use mathlib.Core.Path.{_≡_};
-ghost use mathlib.Core.Bool.{true};
 ghost use Prim.Native.Nat.{_≤_};
 ghost use lib.ListN.{length};
-ghost use Rattle.model.specs.Sound.{sound};
 ghost use Rattle.model.specs.Calls.{choose, place, release};
 ghost use Rattle.model.specs.Program.{says};
 ghost use Rattle.model.specs.OnRecord.{on-record};
-ghost use Rattle.desk.specs.Desk.{line-room, Shows, Answers};
-
-// The output of a line that has an answer and no range.
-pub fn say(out: &mut [u8], number: u32, answer: i32) -> usize
-    requires { ⌜ line-room ≤ length (now out) ⌝ }
-    ensures { λ r. ⌜ Shows (now (out .exit)) r (says number answer) ⌝ }
-{
-    line::print::print_line(out, 0, number, answer, 0, 0, 0, 0)
-}
+ghost use Rattle.line.specs.Print.{line-room};
+ghost use Rattle.desk.specs.Desk.{Shows, Answers};
+use crate::output;
 
 // C: the best position of the draft.
 pub fn choose(card: &[u8], draft: &[u8], number: u32, out: &mut [u8]) -> usize
@@ -24,7 +14,7 @@ pub fn choose(card: &[u8], draft: &[u8], number: u32, out: &mut [u8]) -> usize
     ensures { λ r. ⌜ Shows (now (out .exit)) r (says number (on-record (now (card .entry)) (choose (now (draft .entry))) .answer)) ⌝ }
 {
     let answer = card::card_choose(card, draft);
-    say(out, number, answer)
+    output::say(out, number, answer)
 }
 
 // P: the draft is placed.
@@ -41,7 +31,7 @@ pub fn place(
     ensures { λ r. ⌜ Answers (on-record (now (card .entry)) (place (now (draft .entry)) task column bottom)) number (now (card .exit)) (now (out .exit)) r ⌝ }
 {
     let answer = card::card_place(card, draft, task as u32, column as u32, bottom as i32);
-    say(out, number, answer)
+    output::say(out, number, answer)
 }
 
 // R: a task is released.
@@ -50,5 +40,5 @@ pub fn release(card: &mut [u8], number: u32, task: u16, out: &mut [u8]) -> usize
     ensures { λ r. ⌜ Answers (on-record (now (card .entry)) (release task)) number (now (card .exit)) (now (out .exit)) r ⌝ }
 {
     let answer = card::card_release(card, task as u32);
-    say(out, number, answer)
+    output::say(out, number, answer)
 }

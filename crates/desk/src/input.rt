@@ -1,5 +1,6 @@
 // The input: where its lines end, and its first three lines.
 use crate::MALFORMED;
+use crate::MAX_SHEET;
 use line::device::Rows;
 ghost use mathlib.Core.Path.{_≡_};
 ghost use Prim.Native.Nat.{_<_};
@@ -9,7 +10,7 @@ ghost use Rattle.model.specs.Sheet.{device-line};
 ghost use lib.IntN.{negsuc};
 ghost use Rattle.model.specs.Columns.{Device};
 ghost use Rattle.model.specs.Program.{first, second, third, lines};
-ghost use Rattle.desk.specs.Input.{Ends, Opens, rest-of, Begins};
+ghost use Rattle.desk.specs.Input.{Ends, Opens, rest-of, Begins, after-names};
 
 // What the first three lines lead to: where the fourth starts, or the line that ends the program and its refusal.
 pub enum Begun {
@@ -22,21 +23,14 @@ pub fn line_end(input: &[u8], at: usize) -> usize
     requires { ⌜ at < length (now input) ⌝ }
     ensures { λ r. ⌜ Ends (now (input .entry)) at r ⌝ }
 {
-    let mut i = at;
-    while i < input.len() {
-        if input[i] == b'\n' {
-            return i;
-        }
-        i += 1;
-    }
-    i
+    line::fields::end_before(input, at, b'\n')
 }
 
 // The card of the second line: what new answers, or that the line is malformed.
 fn new_card(line: &[u8], card: &mut [u8]) -> i32
     ensures { λ r. ⌜ Opens (device-line (now (line .entry))) (now (card .entry)) r (now (card .exit)) ⌝ }
 {
-    let mut kinds = [0u8; 80];
+    let mut kinds = [0u8; line::MAX_LINE];
     let Rows::Device { rows, count } = line::device::rows_line(line, &mut kinds) else {
         return MALFORMED;
     };
@@ -86,8 +80,8 @@ fn second(input: &[u8], at: usize, card: &mut [u8]) -> Begun
     third(input, end + 1)
 }
 
-// The first three lines. The card is that of the second line.
-pub fn begin(input: &[u8], card: &mut [u8]) -> Begun
+// The first line, and the second and the third.
+fn first(input: &[u8], card: &mut [u8]) -> Begun
     requires { ⌜ length (now card) ≡ record-size ⌝ }
     ensures { λ r. ⌜ Begins r (now (input .entry)) (now (card .exit)) (first (lines (now (input .entry)))) ⌝ }
 {
@@ -99,4 +93,15 @@ pub fn begin(input: &[u8], card: &mut [u8]) -> Begun
         return malformed(1);
     }
     second(input, end + 1, card)
+}
+
+// The first three lines of an input that is not too long. The card is that of the second line.
+pub fn begin(input: &[u8], card: &mut [u8]) -> Begun
+    requires { ⌜ length (now card) ≡ record-size ⌝ }
+    ensures { λ r. ⌜ Begins r (now (input .entry)) (now (card .exit)) (after-names (now (input .entry))) ⌝ }
+{
+    if MAX_SHEET < input.len() {
+        return malformed(0);
+    }
+    first(input, card)
 }

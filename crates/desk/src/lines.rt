@@ -5,8 +5,10 @@ ghost use Rattle.line.specs.Calls.{call-said};
 ghost use Rattle.desk.specs.Desk.{desk-of, Ready, Leaves};
 use crate::MALFORMED;
 use crate::blocks;
-use crate::blocks::Step;
+use crate::blocks::Left;
+use crate::blocks::leave;
 use crate::calls;
+use crate::output;
 use crate::ranges;
 use line::call::Call;
 use line::call::Line;
@@ -20,48 +22,27 @@ fn on_call(
     call: Call,
     listing: &mut [u8],
     out: &mut [u8],
-) -> Step
+) -> Left
     requires { ⌜ Ready (now card) (now draft) used (now listing) (now out) ⌝ }
     ensures { λ r. ⌜ Leaves (on-call number (desk-of (now (card .entry)) (take used (now (draft .entry)))) (call-said call)) (now (card .exit)) (now (draft .exit)) (r .used) (now (out .exit)) (r .printed) ⌝ }
 {
     match call {
         Call::Block(block) => blocks::add_block(draft, used, number, block, out),
-        Call::Clear => Step {
-            used: 0,
-            printed: 0,
-        },
-        Call::List => {
-            let printed = ranges::list(card, &draft[..used], number, listing, out);
-            Step {
-                used: used,
-                printed: printed,
-            }
-        }
-        Call::Choose => {
-            let printed = calls::choose(card, &draft[..used], number, out);
-            Step {
-                used: used,
-                printed: printed,
-            }
-        }
+        Call::Clear => leave(0, 0),
+        Call::List => leave(
+            used,
+            ranges::list(card, &draft[..used], number, listing, out),
+        ),
+        Call::Choose => leave(used, calls::choose(card, &draft[..used], number, out)),
         Call::Place {
             task,
             column,
             bottom,
         } => {
             let printed = calls::place(card, &draft[..used], number, task, column, bottom, out);
-            Step {
-                used: used,
-                printed: printed,
-            }
+            leave(used, printed)
         }
-        Call::Release { task } => {
-            let printed = calls::release(card, number, task, out);
-            Step {
-                used: used,
-                printed: printed,
-            }
-        }
+        Call::Release { task } => leave(used, calls::release(card, number, task, out)),
     }
 }
 
@@ -74,16 +55,12 @@ pub fn on_line(
     line: &[u8],
     listing: &mut [u8],
     out: &mut [u8],
-) -> Step
+) -> Left
     requires { ⌜ Ready (now card) (now draft) used (now listing) (now out) ⌝ }
     ensures { λ r. ⌜ Leaves (on-line number (desk-of (now (card .entry)) (take used (now (draft .entry)))) (now (line .entry))) (now (card .exit)) (now (draft .exit)) (r .used) (now (out .exit)) (r .printed) ⌝ }
 {
     let Line::Does(call) = line::call::read(line) else {
-        let printed = calls::say(out, number, MALFORMED);
-        return Step {
-            used: used,
-            printed: printed,
-        };
+        return leave(used, output::say(out, number, MALFORMED));
     };
     on_call(card, draft, used, number, call, listing, out)
 }

@@ -1,14 +1,13 @@
 // L: a line of output for each range of the draft.
-ghost use mathlib.Core.Path.{_≡_};
 ghost use Prim.Native.Nat.{_+_, _*_, _≤_};
 ghost use lib.ListN.{length};
 ghost use Rattle.model.specs.Limits.{range-size};
 ghost use Rattle.model.specs.Calls.{ranges-in};
 ghost use Rattle.model.specs.Sheet.{list-draft};
 ghost use Rattle.model.specs.Program.{shows, on-call};
-ghost use Rattle.line.specs.Print.{Printed};
-ghost use Rattle.desk.specs.Desk.{line-room, desk-of, Shows, Card, Room, range-at, range-line};
-use crate::calls;
+ghost use Rattle.line.specs.Print.{Printed, line-room};
+ghost use Rattle.desk.specs.Desk.{desk-of, Shows, Card, Room, range-at, range-line};
+use crate::output;
 
 // The line of output of range i, printed from byte `at` on.
 fn print_range(
@@ -51,7 +50,7 @@ pub fn list(card: &[u8], draft: &[u8], number: u32, listing: &mut [u8], out: &mu
 {
     let answer = card::card_list(card, draft, listing);
     if answer < 0 {
-        return calls::say(out, number, answer);
+        return output::say(out, number, answer);
     }
     print_ranges(listing, answer as usize, number, answer, out)
 }

@@ -1,6 +1,5 @@
 -- What is read from the first three lines, in terms of the model's device. Assumes nothing.
 use Prim.Native.Nat.{ℕ}
-use mathlib.Core.Path.{_≡_}
 use mathlib.Core.Bool.{Bool, true, false}
 use mathlib.Core.Option.{Option, none, some}
 use mathlib.Core.List.{List, [], _∷_, _++_}
@@ -9,11 +8,6 @@ use Rattle.model.specs.Columns.{Device}
 use Rattle.model.specs.Sheet.{kind-letter}
 use Rattle.line.specs.declared.device.Rows.{Rows}
 use Rattle.line.specs.declared.device.Rows.the-variants as rows
-
--- r is true exactly when P holds
-pub record Says (P : Type 0) (r : Bool) : Type 0 where
-  pub yes : r ≡ true → P
-  pub no : r ≡ false → P → ⊥
 
 -- whether the letters were kinds
 abbrev pub known : Option (List ℕ) → Bool

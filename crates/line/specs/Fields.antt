@@ -23,10 +23,14 @@ use Rattle.line.specs.declared.fields.Natural.the-variants as nat
 use Rattle.line.specs.declared.fields.Height.{Height}
 use Rattle.line.specs.declared.fields.Height.the-variants as high
 
+-- the bytes before the first b
+unfoldable pub until : ℕ → List ℕ → List ℕ
+until b [] = []
+until b (x ∷ l) = let rest = until b l in cond (eqb x b) [] (x ∷ rest)
+
 -- the bytes before the first space
-unfoldable pub word : List ℕ → List ℕ
-word [] = []
-word (x ∷ l) = let rest = word l in cond (eqb x (code " ")) [] (x ∷ rest)
+abbrev pub word : List ℕ → List ℕ
+word l = until (code " ") l
 
 -- where the field after the one at `at` starts: past the length, if there is none
 unfoldable pub after : List ℕ → ℕ → ℕ

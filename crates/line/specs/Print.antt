@@ -12,6 +12,10 @@ pub record Printed (before after : List ℕ) (at next : ℕ) (text : List ℕ) :
   pub bytes : after ≡ splice before at (length text) text
   pub place : next ≡ at + length text
 
+-- the bytes that one line of output needs at most
+abbrev pub line-room : ℕ
+line-room = 80
+
 -- a text with a space in front
 abbrev pub spaced : List ℕ → List ℕ
 spaced t = code " " ∷ t

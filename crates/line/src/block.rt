@@ -3,37 +3,27 @@ ghost use mathlib.Core.Path.{_≡_};
 ghost use lib.ListN.{length};
 ghost use mir.Syntax.{w16};
 ghost use mir.Val.{ofZ};
-ghost use Prim.Native.Nat.{_+_, _≤_};
-ghost use Rattle.model.specs.Limits.{block-size};
+ghost use Prim.Native.Nat.{_+_, _≤_, _<_};
+ghost use Rattle.model.specs.Limits.{block-size, words};
 ghost use Rattle.model.specs.Laws.Parts.{splice};
-ghost use Rattle.line.specs.Block.{word-bytes, block-bytes};
+ghost use Rattle.line.specs.Block.{call-bytes};
 use crate::call::BlockCall;
 
 // The two's complement of a number.
 fn word(value: i16) -> u32
-    ensures { λ r. ⌜ r ≡ ofZ w16 value ⌝ }
+    ensures { λ r. ⌜ (r ≡ ofZ w16 value) × (r < words) ⌝ }
 {
     (value as i32 + 65536) as u32 % 65536
-}
-
-// Two bytes, the low one first.
-fn put_word(draft: &mut [u8], at: usize, value: i16)
-    requires { ⌜ at + 2 ≤ length (now draft) ⌝ }
-    ensures { λ _. ⌜ now (draft .exit) ≡ splice (now (draft .entry)) at 2 (word-bytes value) ⌝ }
-{
-    let w = word(value);
-    draft[at] = (w % 256) as u8;
-    draft[at + 1] = (w / 256) as u8;
 }
 
 // The block's bytes, from byte `at` of the draft on.
 pub fn put_block(draft: &mut [u8], at: usize, b: BlockCall)
     requires { ⌜ at + block-size ≤ length (now draft) ⌝ }
-    ensures { λ _. ⌜ now (draft .exit) ≡ splice (now (draft .entry)) at block-size (block-bytes b) ⌝ }
+    ensures { λ _. ⌜ now (draft .exit) ≡ splice (now (draft .entry)) at block-size (call-bytes b) ⌝ }
 {
     let kind = b.kind;
     draft[at] = b.column;
     draft[at + 1] = kind.number();
-    put_word(draft, at + 2, b.bottom);
-    put_word(draft, at + 4, b.top);
+    words::put16(draft, at + 2, word(b.bottom));
+    words::put16(draft, at + 4, word(b.top));
 }

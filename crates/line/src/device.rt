@@ -5,7 +5,8 @@ ghost use Prim.Native.Nat.{_+_, _≤_};
 ghost use Rattle.model.specs.Limits.{max-line};
 ghost use Rattle.model.specs.Laws.Parts.{splice};
 ghost use Rattle.model.specs.Sheet.{first-names, second-names, kind-letters, device-line};
-ghost use Rattle.line.specs.Device.{Says, known, kind-or-zero, kinds-of, rows-of, kinds-left};
+ghost use Rattle.words.specs.Words.{Same};
+ghost use Rattle.line.specs.Device.{known, kind-or-zero, kinds-of, rows-of, kinds-left};
 use crate::MAX_LINE;
 use crate::MAX_ROWS_FIELD;
 use crate::fields;
@@ -18,33 +19,18 @@ pub enum Rows {
     Malformed,
 }
 
-// Whether two texts are equal.
-fn same(a: &[u8], b: &[u8]) -> bool
-    ensures { λ r. ⌜ Says (now (a .entry) ≡ now (b .entry)) r ⌝ }
-{
-    if a.len() != b.len() {
-        return false;
-    }
-    let mut i = 0;
-    while i < a.len() {
-        if a[i] != b[i] {
-            return false;
-        }
-        i += 1;
-    }
-    true
-}
-
+// Whether a line is the first names line.
 pub fn is_first_names(line: &[u8]) -> bool
-    ensures { λ r. ⌜ Says (now (line .entry) ≡ first-names) r ⌝ }
+    ensures { λ r. ⌜ Same (now (line .entry)) first-names r ⌝ }
 {
-    same(line, b"rows kinds")
+    words::equal(line, b"rows kinds")
 }
 
+// Whether a line is the second names line.
 pub fn is_second_names(line: &[u8]) -> bool
-    ensures { λ r. ⌜ Says (now (line .entry) ≡ second-names) r ⌝ }
+    ensures { λ r. ⌜ Same (now (line .entry)) second-names r ⌝ }
 {
-    same(line, b"call task column kind bottom top")
+    words::equal(line, b"call task column kind bottom top")
 }
 
 // Whether all letters are kinds.

@@ -3,9 +3,14 @@ ghost use mathlib.Core.Path.{_≡_};
 ghost use lib.ListN.{length, drop};
 ghost use Prim.Native.Nat.{_+_, _≤_, _<_};
 ghost use Rattle.model.specs.Sheet.{natural, number, kind-letter};
-ghost use Rattle.line.specs.Fields.{word, most-read, capped, capped-number, digits-of, byte-at, natural-at, height-at, kind-said};
+ghost use Rattle.line.specs.Fields.{until, word, most-read, capped, capped-number, digits-of, byte-at, natural-at, height-at, kind-said};
+use crate::MAX_HEIGHT_FIELD;
+use crate::MIN_HEIGHT_FIELD;
 use model::Kind;
 use model::KindRead;
+
+// The most that a run of digits may say before one digit more: 99,999 is the greatest number that is read.
+const MOST_BEFORE: u32 = 9999;
 
 // A run of digits, or none.
 pub enum Digits {
@@ -37,14 +42,14 @@ pub enum Height {
     Bad,
 }
 
-// Where the field that starts at `at` ends.
-pub fn field_end(line: &[u8], at: usize) -> usize
-    requires { ⌜ at ≤ length (now line) ⌝ }
-    ensures { λ r. ⌜ (r ≡ at + length (word (drop at (now (line .entry))))) × (r ≤ length (now (line .entry))) ⌝ }
+// Where the next `byte` from `at` on stands: the end, if there is none.
+pub fn end_before(text: &[u8], at: usize, byte: u8) -> usize
+    requires { ⌜ at ≤ length (now text) ⌝ }
+    ensures { λ r. ⌜ (r ≡ at + length (until byte (drop at (now (text .entry))))) × (r ≤ length (now (text .entry))) ⌝ }
 {
     let mut i = at;
-    while i < line.len() {
-        if line[i] == b' ' {
+    while i < text.len() {
+        if text[i] == byte {
             return i;
         }
         i += 1;
@@ -52,7 +57,15 @@ pub fn field_end(line: &[u8], at: usize) -> usize
     i
 }
 
-// The digits from `from` to the end. No field needs a number above 99,999, so a longer one counts as none.
+// Where the field that starts at `at` ends.
+pub fn field_end(line: &[u8], at: usize) -> usize
+    requires { ⌜ at ≤ length (now line) ⌝ }
+    ensures { λ r. ⌜ (r ≡ at + length (word (drop at (now (line .entry))))) × (r ≤ length (now (line .entry))) ⌝ }
+{
+    end_before(line, at, b' ')
+}
+
+// The digits from `from` to the end. No field needs a number above 99,999, so a greater one counts as none.
 fn run(text: &[u8], from: usize) -> Digits
     requires { ⌜ from ≤ length (now text) ⌝ }
     ensures { λ r. ⌜ r ≡ digits-of 0 (drop from (now (text .entry))) ⌝ }
@@ -67,7 +80,7 @@ fn run(text: &[u8], from: usize) -> Digits
         if b'9' < b {
             return Digits::None;
         }
-        if 9999 < v {
+        if MOST_BEFORE < v {
             return Digits::None;
         }
         v = 10 * v + ((b - b'0') as u32);
@@ -158,10 +171,10 @@ pub fn height_field(line: &[u8], at: usize) -> Height
     let Num::Value(v) = signed(&line[at..end]) else {
         return Height::Bad;
     };
-    if v < -32768 {
+    if v < MIN_HEIGHT_FIELD {
         return Height::Bad;
     }
-    if 32767 < v {
+    if MAX_HEIGHT_FIELD < v {
         return Height::Bad;
     }
     Height::Value(v as i16, end + 1)

@@ -6,7 +6,7 @@ ghost use lib.Signed.{ltZ};
 ghost use lib.ListN.{length};
 ghost use Prim.Native.Nat.{_+_, _≤_, _<_};
 ghost use Rattle.model.specs.Sheet.{shown, output-line};
-ghost use Rattle.line.specs.Print.{Printed, spaced, names-line};
+ghost use Rattle.line.specs.Print.{Printed, line-room, spaced, names-line};
 
 // The decimal digits of a number: all but the last, and then the last.
 pub fn print_natural(out: &mut [u8], at: usize, value: u32) -> usize
@@ -71,8 +71,8 @@ pub fn print_line(
     step: u32,
     last: u32,
 ) -> usize
-    requires { ⌜ at + 80 ≤ length (now out) ⌝ }
-    ensures { λ r. ⌜ (r ≤ at + 80) × Printed (now (out .entry)) (now (out .exit)) at r (output-line line answer column first step last) ⌝ }
+    requires { ⌜ at + line-room ≤ length (now out) ⌝ }
+    ensures { λ r. ⌜ (r ≤ at + line-room) × Printed (now (out .entry)) (now (out .exit)) at r (output-line line answer column first step last) ⌝ }
 {
     let a = print_natural(out, at, line);
     let b = print_answer(out, a, answer);
@@ -89,17 +89,14 @@ fn print_text(out: &mut [u8], at: usize, text: &[u8]) -> usize
     requires { ⌜ at + length (now text) ≤ length (now out) ⌝ }
     ensures { λ r. ⌜ Printed (now (out .entry)) (now (out .exit)) at r (now (text .entry)) ⌝ }
 {
-    let mut i = 0;
-    while i < text.len() {
-        out[at + i] = text[i];
-        i += 1;
-    }
-    at + i
+    let end = at + text.len();
+    words::copy(&mut out[at..end], text);
+    end
 }
 
 // The names line of the output, with its newline.
 pub fn print_names(out: &mut [u8], at: usize) -> usize
-    requires { ⌜ at + 35 ≤ length (now out) ⌝ }
+    requires { ⌜ at + length names-line ≤ length (now out) ⌝ }
     ensures { λ r. ⌜ Printed (now (out .entry)) (now (out .exit)) at r names-line ⌝ }
 {
     print_text(out, at, b"line answer column first step last\n")

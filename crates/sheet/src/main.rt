@@ -3,25 +3,37 @@ use desk::input::Begun;
 use libc::STDIN_FILENO;
 use libc::STDOUT_FILENO;
 ghost use lib.ListN.{length};
-ghost use Prim.Native.Nat.{_≤_};
+ghost use Prim.Native.Nat.{_+_, _≤_};
 ghost use Rattle.model.specs.Limits.{max-sheet};
 ghost use Rattle.desk.specs.Desk.{Card};
 
 // The greatest input, and one byte more, by which a longer one is known.
-const MAX_SHEET: usize = 32768;
+const INPUT_ROOM: usize = desk::MAX_SHEET + 1;
 
-const INPUT_ROOM: usize = 32769;
+// Writes the first n bytes.
+fn write(out: &[u8], n: usize)
+    requires { ⌜ n ≤ length (now out) ⌝ }
+{
+    io::write_all(STDOUT_FILENO, &out[..n]);
+}
+
+// Writes the names line.
+fn names() {
+    let mut out = [0u8; desk::LINE_ROOM];
+    let n = desk::names(&mut out);
+    write(&out, n);
+}
 
 // Writes a line that has an answer and no range.
 fn say(line: u32, answer: i32) {
-    let mut out = [0u8; 80];
+    let mut out = [0u8; desk::LINE_ROOM];
     let n = desk::say(&mut out, line, answer);
-    io::write_all(STDOUT_FILENO, &out[..n]);
+    write(&out, n);
 }
 
 // The lines from the fourth on, which starts at `first`.
 fn lines(input: &[u8], first: usize, card: &mut [u8])
-    requires { ⌜ (length (now input) ≤ max-sheet) × Card (now card) ⌝ }
+    requires { ⌜ (length (now input) ≤ max-sheet + 1) × Card (now card) ⌝ }
 {
     let mut draft = [0u8; desk::DRAFT_ROOM];
     let mut listing = [0u8; model::LIST_ROOM];
@@ -31,7 +43,7 @@ fn lines(input: &[u8], first: usize, card: &mut [u8])
     let mut at = first;
     while at < input.len() {
         let end = desk::input::line_end(input, at);
-        let step = desk::lines::on_line(
+        let left = desk::lines::on_line(
             card,
             &mut draft,
             used,
@@ -40,9 +52,8 @@ fn lines(input: &[u8], first: usize, card: &mut [u8])
             &mut listing,
             &mut out,
         );
-        used = step.used;
-        let printed = step.printed;
-        io::write_all(STDOUT_FILENO, &out[..printed]);
+        used = left.used;
+        write(&out, left.printed);
         number += 1;
         at = end + 1;
     }
@@ -50,7 +61,7 @@ fn lines(input: &[u8], first: usize, card: &mut [u8])
 
 // The sheet on a card of its own.
 fn sheet(input: &[u8])
-    requires { ⌜ length (now input) ≤ max-sheet ⌝ }
+    requires { ⌜ length (now input) ≤ max-sheet + 1 ⌝ }
 {
     let mut card = [0u8; model::RECORD_SIZE];
     match desk::input::begin(input, &mut card) {
@@ -62,10 +73,6 @@ fn sheet(input: &[u8])
 fn main() {
     let mut input = [0u8; INPUT_ROOM];
     let n = io::read_full(STDIN_FILENO, &mut input);
-    io::write_all(STDOUT_FILENO, b"line answer column first step last\n");
-    if MAX_SHEET < n {
-        say(0, desk::MALFORMED);
-        return;
-    }
+    names();
     sheet(&input[..n]);
 }

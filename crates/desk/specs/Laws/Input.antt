@@ -1,53 +1,42 @@
--- Where lines end. Assumes nothing.
+-- Where lines end, and what the first three lead to. Assumes nothing.
 use Prim.Native.Nat.{ℕ, suc, _+_, _-_, _≤_, _<_}
 use Prim.Native.Char.{code}
 use mathlib.Core.Path.{_≡_, refl, sym, ap, ap₂, _∙_}
 use mathlib.Core.Bool.{Bool, true, false, cond}
 use mathlib.Core.Option.{Option, none, some}
 use mathlib.Core.List.{List, [], _∷_}
-use native.Mathlib.Numerals.{add-one}
 use native.Mathlib.Omega.{arith}
 use lib.Dec.{eqb}
 use lib.IntN.{ℤ, pos, negsuc}
 use lib.Signed.{ltZ}
-use lib.ListN.{length, getD, take, drop, drop-of-length-le, length-drop, length-append}
-use lib.Seq.{drop-cons, drop-drop, take-at}
-use borrow.Author.Tests.{eq-eqb, ne-eqb, eqb-true}
-use Rattle.model.specs.Limits.{record-size}
+use lib.ListN.{length, take, drop, drop-of-length-le, length-drop, length-append}
+use lib.Seq.{drop-drop, take-at}
+use borrow.Author.Tests.{eq-eqb, eqb-true, lt-ltb, le-ltb}
+use Rattle.model.specs.Limits.{record-size, max-sheet}
 use Rattle.model.specs.Sheet.{first-names, second-names, device-line}
 use Rattle.model.specs.Record.{record-of}
 use Rattle.model.specs.Calls.{Outcome}
 use Rattle.model.specs.Program.{lines, longer, same-line, says, with-device, first, second, third, on-lines}
-use Rattle.model.specs.Laws.Bounded.{and-to}
+use Rattle.model.specs.Laws.Bounded.{and-to, is-false}
 use Rattle.model.specs.Laws.OnRecord.{new-done, new-bad-device}
 use Rattle.model.specs.Laws.Kept.{within-new}
 use Rattle.model.specs.Columns.{Device, device-ok}
 use Rattle.model.specs.OnRecord.{new}
+use Rattle.line.specs.Fields.{until}
 use Rattle.line.specs.Device.{rows-of, kinds-left}
 use Rattle.line.specs.declared.device.Rows.the-variants as rows
 use Rattle.card.specs.Leaves.{Changes}
 use Rattle.desk.specs.declared.input.Begun.{Begun}
 use Rattle.desk.specs.declared.input.Begun.the-variants as begun
 use Rattle.desk.specs.Desk.{Card}
-use Rattle.desk.specs.Input.{line-of, Ends, Opens, Opened, rest-of, Begins}
-use Rattle.desk.specs.Laws.Lines.{card-of}
-
--- ---- the loop that looks for the newline
-
-module _ (s : List ℕ) (i : ℕ) (h : i < length s) where
-  pub line-stop : getD s i 0 ≡ 10 → length (line-of (drop i s)) ≡ 0
-  unfolding line-of
-  line-stop e = rw (drop-cons s i 0, eq-eqb _ _ e)
-
-  pub line-step : (getD s i 0 ≡ 10 → ⊥) → length (line-of (drop i s)) ≡ suc (length (line-of (drop (i + 1) s)))
-  unfolding line-of
-  line-step e = rw (drop-cons s i 0, ne-eqb _ _ e, add-one)
-
-pub line-over : (s : List ℕ) (i : ℕ) → length s ≤ i → length (line-of (drop i s)) ≡ 0
-unfolding line-of
-line-over s i h = rw (drop-of-length-le s h)
+use Rattle.desk.specs.Input.{Ends, Opens, Opened, rest-of, Begins, after-names}
+use Rattle.desk.specs.Laws.Card.{card-of}
 
 -- ---- the first line and the others
+
+-- the bytes before the first newline
+abbrev line-of : List ℕ → List ℕ
+line-of s = until (code "\n") s
 
 abbrev Parted : List ℕ → Type 0
 Parted s = lines s ≡ take (length (line-of s)) s ∷ lines (drop (suc (length (line-of s))) s)
@@ -59,7 +48,7 @@ Parted-by t x s =
     ≡ take (length (cond t [] (x ∷ line-of s))) (x ∷ s) ∷ lines (drop (suc (length (cond t [] (x ∷ line-of s)))) (x ∷ s))
 
 parted-last : (t : Bool) (x : ℕ) → Parted-by t x []
-unfolding lines line-of
+unfolding lines until
 parted-last true x = refl
 parted-last false x = refl
 
@@ -68,7 +57,7 @@ parted-more true x s r = refl
 parted-more false x s r = ap (longer x) r
 
 parted : (x : ℕ) (s : List ℕ) → Parted (x ∷ s)
-unfolding lines line-of
+unfolding lines until
 parted x [] = parted-last (eqb x 10) x
 parted x (y ∷ s) = parted-more (eqb x 10) x (y ∷ s) (parted y s)
 
@@ -77,7 +66,7 @@ parted-any [] h = absurd (omega arith)
 parted-any (x ∷ s) h = parted x s
 
 -- the line that starts at `at` is as long as it was found to be
-pub ends : (s : List ℕ) (at end : ℕ) → at < length s → end ≤ length s → end ≡ at + length (line-of (drop at s)) → Ends s at end
+pub ends : (s : List ℕ) (at end : ℕ) → at < length s → end ≤ length s → end ≡ at + length (until (code "\n") (drop at s)) → Ends s at end
 ends s at end h q e =
     let k = length (line-of (drop at s)) in
     let d : end - at ≡ k = omega arith in
@@ -123,13 +112,10 @@ same-of [] = refl
 same-of (x ∷ l) = rw (eq-eqb x x refl, same-of l)
 
 same-not : (l m : List ℕ) → (l ≡ m → ⊥) → same-line l m ≡ false
-same-not l m h = go (same-line l m) refl
-  where
-    go : (t : Bool) → same-line l m ≡ t → t ≡ false
-    go true e = absurd (h (same-to l m e))
-    go false e = refl
+same-not l m h = is-false (same-line l m) (λ e. h (same-to l m e))
 
-lines-none : (s : List ℕ) (at : ℕ) → length s ≤ at → lines (drop at s) ≡ []
+-- no line starts past the end
+pub lines-none : (s : List ℕ) (at : ℕ) → length s ≤ at → lines (drop at s) ≡ []
 unfolding lines
 lines-none s at h = rw (drop-of-length-le s h)
 
@@ -187,7 +173,7 @@ module _ (r : List ℕ) (size : length r ≡ record-size) (ls : List (List ℕ))
   second-refused none a r′ c h = ap (says 2) (sym c)
   second-refused (some d) a r′ c h = by-device d (device-ok d) refl a r′ c h
 
-  opened : (d : Device) (r′ : List ℕ) → r′ ≡ record-of d [] → Card r′ → (b : Begun) → Opened b d r′
+  opened : (d : Device) (r′ : List ℕ) → r′ ≡ record-of d [] → device-ok d ≡ true → (b : Begun) → Opened b d r′
   opened d r′ e k (begun.Ready at) = (e, k)
   opened d r′ e k (begun.Fault line answer) = tt
 
@@ -199,13 +185,22 @@ module _ (r : List ℕ) (size : length r ≡ record-size) (ls : List (List ℕ))
       go : (t : Bool) → device-ok d ≡ t → (x : Device) × Opened b x r′ × (cond t (third d ls) (says 2 (negsuc 2)) ≡ rest-of b x input)
       go true e =
           let is : r′ ≡ record-of d [] = c .record-is ∙ ap (λ (o : Outcome (List ℕ)). o .state) (new-done r (d .rows) (d .kinds) size e) in
-          (d, opened d r′ is (rw is (card-of d [] (within-new d e))) b, f d)
+          (d, opened d r′ is e b, f d)
       go false e =
           let bad : a ≡ negsuc 2 = c .answer-is ∙ ap (λ (o : Outcome (List ℕ)). o .answer) (new-bad-device r (d .rows) (d .kinds) size e) in
           let z : _≡_ {A = ℕ} 0 1 = cc bad in
           absurd (omega arith)
 
+-- an input that is too long, and any other
+pub sheet-long : (s : List ℕ) → max-sheet < length s → after-names s ≡ says 0 (negsuc 11)
+unfolding after-names
+sheet-long s h = rw (lt-ltb _ _ h)
+
+pub sheet-short : (s : List ℕ) → length s ≤ max-sheet → after-names s ≡ first (lines s)
+unfolding after-names
+sheet-short s h = rw (le-ltb _ _ h)
+
 -- where the fourth line is reached, there is a card
 pub ready-card : (b : Begun) {n : ℕ} (input card output : List ℕ) → b ≡ begun.Ready n → Begins b input card output → Card card
-ready-card (begun.Ready at) input card output e x = x .1 .1
+ready-card (begun.Ready at) input card output e (d, (is, ok), o) = rw is (card-of d [] (within-new d ok))
 ready-card (begun.Fault line answer) input card output e x = let z : _≡_ {A = ℕ} 0 1 = cc in absurd (omega arith)

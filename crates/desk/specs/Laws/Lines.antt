@@ -1,102 +1,86 @@
 -- What a line leaves, by the call that it makes. Assumes nothing.
-use Prim.Native.Nat.{ℕ, _+_, _*_, _/_, _%_, _≤_, _<_}
+use Prim.Native.Nat.{ℕ, _+_, _/_, _≤_, _<_}
 use mathlib.Core.Path.{_≡_, refl, sym, ap, _∙_}
 use mathlib.Core.Bool.{Bool, true, false, cond}
 use mathlib.Core.Option.{Option, none, some}
-use mathlib.Core.List.{List, [], _∷_, _++_, append-assoc}
+use mathlib.Core.List.{List, [], _++_, append-assoc}
 use native.Mathlib.Omega.{arith}
 use lib.Dec.{ltb}
 use lib.IntN.{ℤ, pos, negsuc, negℤ}
-use lib.Signed.{mag}
-use lib.ListN.{length, replicate, take, drop, length-append, length-drop}
+use lib.ListN.{length, replicate, take, drop, length-append}
 use lib.Seq.{take-at, length-take-le}
-use mir.Syntax.{w16}
-use mir.Val.{ofZ}
 use borrow.Author.Tests.{lt-ltb, le-ltb}
 use Rattle.model.specs.Limits.{block-size, max-blocks, list-room}
-use Rattle.model.specs.Columns.{Device}
 use Rattle.model.specs.Tasks.{blocks}
-use Rattle.model.specs.Book.{Book}
-use Rattle.model.specs.Kinds.{number-of}
 use Rattle.model.specs.Record.{record-of, device-of, book-of, bytes16}
 use Rattle.model.specs.Sound.{within}
-use Rattle.model.specs.Calls.{Call, list, choose, place, release, Outcome, refused, refusals, unless, lent, done, on-book}
+use Rattle.model.specs.Calls.{Call, list, choose, Outcome, refused, refusals, unless, lent, done, on-book}
 use Rattle.model.specs.OnRecord.{written, on-record}
-use Rattle.model.specs.Sheet.{SheetCall, empty-draft, list-draft, choose-draft, place-draft, release-task, sheet-line}
-use Rattle.model.specs.Program.{Desk, Left, says, answered, listed, on-call, on-read, on-line}
-use Rattle.model.specs.Program as program
+use Rattle.model.specs.Sheet.{SheetCall, empty-draft, list-draft, choose-draft, sheet-line}
+use Rattle.model.specs.Program.{Desk, Left, says, block-bytes, answered, listed, on-call, on-line}
 use Rattle.model.specs.Laws.Parts.{splice, length-splice}
-use Rattle.model.specs.Laws.Step.{same-step}
 use Rattle.model.specs.Laws.Kept.{kept}
-use Rattle.model.specs.Laws.ReadBack.{device-of-record, book-of-record}
-use Rattle.line.specs.Block.{block-bytes}
-use Rattle.line.specs.Laws.Block.{bits-small}
+use Rattle.line.specs.Block.{call-bytes}
 use Rattle.line.specs.Calls.{call-said}
 use Rattle.line.specs.declared.call.BlockCall.{BlockCall}
 use Rattle.line.specs.declared.call.Call.the-variants.{Block}
 use Rattle.desk.specs.Desk.{draft-room, desk-of, Shows, Drafted, Card, Leaves, Answers, Adds}
+use Rattle.desk.specs.Laws.Card.{card-of, on-card}
 use Rattle.desk.specs.Laws.Shows.{shows-none}
 
--- the record of a device and a book within the limits is a card
-pub card-of : (d : Device) (b : Book) → within d b ≡ true → Card (record-of d b)
-card-of d b w = record { within = rw (device-of-record d b w, book-of-record d b w) w; is = rw (device-of-record d b w, book-of-record d b w) }
-
-module _ (r : List ℕ) (k : Card r) (number : ℕ) (t draft : List ℕ) (used : ℕ) (e : take used draft ≡ t) (f : Drafted draft used) where
+module _ (r : List ℕ) (k : Card r) (number : ℕ) (draft : List ℕ) (used : ℕ) (f : Drafted draft used) where
   -- a line that leaves the card and the draft
-  pub leaves-same : {p out : List ℕ} {printed : ℕ} → Shows out printed p → Leaves (record { printed = p; desk = desk-of r t }) r draft used out printed
-  leaves-same s = record { card-is = k .is; draft-is = e; printed-is = s; is-card = k; drafted = f }
-
-  on-card : (c : Call) → on-record r c ≡ written (device-of r) (on-book (device-of r) (book-of r) c)
-  on-card c = ap (λ (x : List ℕ). on-record x c) (k .is) ∙ same-step (device-of r) (book-of r) c (k .within)
+  pub leaves-same : {p out : List ℕ} {printed : ℕ} → Shows out printed p → Leaves (record { printed = p; desk = desk-of r (take used draft) }) r draft used out printed
+  leaves-same s = record { card-is = k .is; draft-is = refl; printed-is = s; is-card = k; drafted = f }
 
   -- a call that may change the card
   pub leaves-answered : (c : Call) {r′ out : List ℕ} {printed : ℕ} → Answers (on-record r c) number r′ out printed
-      → Leaves (answered number (desk-of r t) (on-book (device-of r) (book-of r) c)) r′ draft used out printed
+      → Leaves (answered number (desk-of r (take used draft)) (on-book (device-of r) (book-of r) c)) r′ draft used out printed
   unfolding written
   leaves-answered c {r′} {out} {printed} a =
       let b = on-book (device-of r) (book-of r) c .state in
-      let is : r′ ≡ record-of (device-of r) b = a .card-is ∙ ap (λ (x : Outcome (List ℕ)). x .state) (on-card c) in
+      let is : r′ ≡ record-of (device-of r) b = a .card-is ∙ ap (λ (x : Outcome (List ℕ)). x .state) (on-card r k c) in
       record {
         card-is = is;
-        draft-is = e;
-        printed-is = rw (on-card c) at (a .printed-is);
+        draft-is = refl;
+        printed-is = rw (on-card r k c) at (a .printed-is);
         is-card = rw is (card-of (device-of r) b (kept (device-of r) (book-of r) c (k .within)));
         drafted = f;
       }
 
   -- choose leaves the card
-  chosen-state : on-book (device-of r) (book-of r) (choose t) .state ≡ book-of r
+  chosen-state : on-book (device-of r) (book-of r) (choose (take used draft)) .state ≡ book-of r
   unfolding on-book done unless
-  chosen-state = go (refused (refusals (device-of r) (book-of r) (choose t)))
+  chosen-state = go (refused (refusals (device-of r) (book-of r) (choose (take used draft))))
     where
-      go : (x : Option ℕ) → unless x (lent (choose t)) (book-of r) (done (device-of r) (book-of r) (choose t)) .state ≡ book-of r
+      go : (x : Option ℕ) → unless x (lent (choose (take used draft))) (book-of r) (done (device-of r) (book-of r) (choose (take used draft))) .state ≡ book-of r
       go none = refl
       go (some n) = refl
 
-  pub leaves-chosen : {out : List ℕ} {printed : ℕ} → Shows out printed (says number (on-record r (choose t) .answer))
-      → Leaves (on-call number (desk-of r t) choose-draft) r draft used out printed
+  pub leaves-chosen : {out : List ℕ} {printed : ℕ} → Shows out printed (says number (on-record r (choose (take used draft)) .answer))
+      → Leaves (on-call number (desk-of r (take used draft)) choose-draft) r draft used out printed
   unfolding on-call written
   leaves-chosen s = record {
     card-is = k .is ∙ ap (record-of (device-of r)) (sym chosen-state);
-    draft-is = e;
-    printed-is = rw (on-card (choose t)) at s;
+    draft-is = refl;
+    printed-is = rw (on-card r k (choose (take used draft))) at s;
     is-card = k;
     drafted = f;
   }
 
   -- list leaves the card
-  pub leaves-listed : {out : List ℕ} {printed : ℕ} → Shows out printed (on-call number (desk-of r t) list-draft .printed)
-      → Leaves (on-call number (desk-of r t) list-draft) r draft used out printed
+  pub leaves-listed : {out : List ℕ} {printed : ℕ} → Shows out printed (on-call number (desk-of r (take used draft)) list-draft .printed)
+      → Leaves (on-call number (desk-of r (take used draft)) list-draft) r draft used out printed
   unfolding on-call
-  leaves-listed {out} {printed} s = go (on-book (device-of r) (book-of r) (list t (replicate list-room 0)) .answer) s
+  leaves-listed {out} {printed} s = go (on-book (device-of r) (book-of r) (list (take used draft) (replicate list-room 0)) .answer) s
     where
-      go : (z : ℤ) → Shows out printed (listed number (desk-of r t) z .printed) → Leaves (listed number (desk-of r t) z) r draft used out printed
+      go : (z : ℤ) → Shows out printed (listed number (desk-of r (take used draft)) z .printed) → Leaves (listed number (desk-of r (take used draft)) z) r draft used out printed
       go (pos n) s = leaves-same s
       go (negsuc n) s = leaves-same s
 
   -- a malformed line, and a line that says a call
   pub leaves-malformed : (l : List ℕ) {out : List ℕ} {printed : ℕ} → sheet-line l ≡ none → Shows out printed (says number (negsuc 11))
-      → Leaves (on-line number (desk-of r t) l) r draft used out printed
+      → Leaves (on-line number (desk-of r (take used draft)) l) r draft used out printed
   unfolding on-line
   leaves-malformed l q s = rw q (leaves-same s)
 
@@ -109,7 +93,7 @@ pub leaves-emptied : (r : List ℕ) → Card r → (number : ℕ) (draft : List 
     → Leaves (on-call number (desk-of r t) empty-draft) r draft 0 out 0
 unfolding on-call
 leaves-emptied r k number draft used f t out =
-    leaves-same r k number [] draft 0 refl (record { room = f .room; most = omega arith; whole = refl }) (shows-none out)
+    leaves-same r k number draft 0 (record { room = f .room; most = omega arith; whole = refl }) (shows-none out)
 
 -- ---- a block added
 
@@ -120,27 +104,19 @@ take-splice r at v h l =
     rw (← append-assoc (take at r) v (drop block-size (drop at r)))
     (take-at (take at r ++ v) (drop block-size (drop at r)) (at + block-size) (rw length-append (omega (arith, length-take-le at r h))))
 
--- the block's bytes as the model has them
-model-bytes : (b : BlockCall) → mag (b .bottom) < 32768 → mag (b .top) < 32768 → block-bytes b ≡ program.block-bytes (b .column) (number-of (b .kind)) (b .bottom) (b .top)
-unfolding program.block-bytes bytes16
-model-bytes b h k =
-    let x : ofZ w16 (b .bottom) / 256 % 256 ≡ ofZ w16 (b .bottom) / 256 = omega (arith, bits-small (b .bottom) h) in
-    let y : ofZ w16 (b .top) / 256 % 256 ≡ ofZ w16 (b .top) / 256 = omega (arith, bits-small (b .top) k) in
-    rw (x, y)
-
 module _ (draft : List ℕ) (used number : ℕ) (b : BlockCall) (f : Drafted draft used) where
   -- room for one block more
-  pub adds-block : {out draft′ : List ℕ} → mag (b .bottom) < 32768 → mag (b .top) < 32768 → used < draft-room
-      → draft′ ≡ splice draft used block-size (block-bytes b) → Adds draft used number b draft′ out (used + block-size) 0
-  unfolding on-call blocks
-  adds-block {out} {draft′} x y h e =
+  pub adds-block : {out draft′ : List ℕ} → used < draft-room
+      → draft′ ≡ splice draft used block-size (call-bytes b) → Adds draft used number b draft′ out (used + block-size) 0
+  unfolding on-call blocks block-bytes bytes16
+  adds-block {out} {draft′} h e =
       let l : length (take used draft) ≡ used = length-take-le used draft (omega arith) in
       let few : length (take used draft) / block-size < max-blocks = omega arith in
       let fits : used + block-size ≤ length draft = omega arith in
       record {
-        draft-is = λ d k. rw (lt-ltb _ _ few) (ap (take (used + block-size)) e ∙ take-splice draft used (block-bytes b) (omega arith) refl ∙ ap (λ (t : List ℕ). take used draft ++ t) (model-bytes b x y));
+        draft-is = λ d k. rw (lt-ltb _ _ few) (ap (take (used + block-size)) e ∙ take-splice draft used (call-bytes b) (omega arith) refl);
         printed-is = λ d k. rw (lt-ltb _ _ few) (shows-none out);
-        drafted = record { room = rw (e, length-splice draft used block-size (block-bytes b) fits refl) (f .room); most = omega arith; whole = omega arith };
+        drafted = record { room = rw (e, length-splice draft used block-size (call-bytes b) fits refl) (f .room); most = omega arith; whole = omega arith };
       }
 
   -- a 33rd block
@@ -168,7 +144,7 @@ leaves-added r k draft used number b a = record {
 }
   where
     x : Left
-    x = record { printed = []; desk = desk-of r (take used draft ++ program.block-bytes (b .column) (number-of (b .kind)) (b .bottom) (b .top)) }
+    x = record { printed = []; desk = desk-of r (take used draft ++ call-bytes b) }
 
     y : Left
     y = record { printed = says number (negℤ (pos 4)); desk = desk-of r (take used draft) }

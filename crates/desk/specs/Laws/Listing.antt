@@ -1,5 +1,5 @@
 -- A listing printed: its ranges read back from the bytes, and its answer. Assumes nothing.
-use Prim.Native.Nat.{ℕ, zero, suc, _+_, _-_, _*_, _≤_, _<_}
+use Prim.Native.Nat.{ℕ, zero, suc, _+_, _-_, _*_, _≤_}
 use mathlib.Core.Path.{_≡_, refl, sym, ap, _∙_}
 use mathlib.Core.Logic.{_⊎_, inl, inr}
 use mathlib.Core.Bool.{Bool, true, false, not}
@@ -7,29 +7,27 @@ use mathlib.Core.Option.{Option, none, some}
 use mathlib.Core.List.{List, [], _∷_, _++_, append-nil}
 use native.Mathlib.Numerals.{add-one}
 use native.Mathlib.Omega.{arith}
-use native.Mathlib.Nat.{add-zero}
 use lib.Dec.{ltb, leb·suc-zero}
 use lib.IntN.{ℤ, pos, negsuc, natAbs}
 use lib.Signed.{ltZ}
-use lib.ListN.{length, getD, take, drop, replicate, length-append, length-drop, length-replicate}
+use lib.ListN.{length, drop, replicate, length-append, length-replicate}
 use lib.Seq.{getD-drop}
-use borrow.Author.Tests.{le-ltb}
 use Rattle.model.specs.Limits.{range-size, list-room}
 use Rattle.model.specs.Bounded.{join-in}
 use Rattle.model.specs.Columns.{Device}
 use Rattle.model.specs.Tasks.{word, sized, well-formed}
 use Rattle.model.specs.Book.{Book}
 use Rattle.model.specs.Listing.{Range, ranges}
-use Rattle.model.specs.Record.{record-of, device-of, book-of, bytes16}
+use Rattle.model.specs.Record.{device-of, book-of, bytes16}
 use Rattle.model.specs.Sound.{within}
-use Rattle.model.specs.Calls.{Call, list, Outcome, Refusal, refuse, refused, refusals, no-position, unless, lent, done, on-book, range-bytes, ranges-in, over}
+use Rattle.model.specs.Calls.{list, Outcome, refuse, refused, refusals, no-position, unless, lent, done, on-book, range-bytes, ranges-in, over}
 use Rattle.model.specs.OnRecord.{written, on-record}
-use Rattle.model.specs.Sheet.{list-draft, output-line}
-use Rattle.model.specs.Program.{Desk, says, shows, listed, on-call}
+use Rattle.model.specs.Sheet.{list-draft}
+use Rattle.model.specs.Program.{says, shows, listed, on-call}
 use Rattle.model.specs.Laws.Listing.{join-append}
 use Rattle.model.specs.Laws.RangeBytes.{read-ranges}
-use Rattle.model.specs.Laws.Step.{same-step}
-use Rattle.desk.specs.Desk.{desk-of, Card, Room, range-at, range-line}
+use Rattle.desk.specs.Desk.{desk-of, Card, range-at, range-line}
+use Rattle.desk.specs.Laws.Card.{on-card}
 
 -- ---- one range more
 
@@ -93,13 +91,10 @@ unfolding on-book refusals done
 same-answer d b t o o′ l l′ = rw (l, l′) (unless-answer _ _ _ b _ _ refl)
 
 module _ (r t o : List ℕ) (k : Card r) (l : length o ≡ list-room) (number : ℕ) where
-  on-card : on-record r (list t o) ≡ written (device-of r) (on-book (device-of r) (book-of r) (list t o))
-  on-card = ap (λ (x : List ℕ). on-record x (list t o)) (k .is) ∙ same-step (device-of r) (book-of r) (list t o) (k .within)
-
   listed-as : (z : ℤ) → z ≡ on-record r (list t o) .answer → listed number (desk-of r t) z .printed ≡ on-call number (desk-of r t) list-draft .printed
   unfolding on-call written
   listed-as z e =
-      ap (λ (a : ℤ). listed number (desk-of r t) a .printed) (e ∙ ap (λ (x : Outcome (List ℕ)). x .answer) on-card ∙ same-answer (device-of r) (book-of r) t o (replicate list-room 0) l (length-replicate {A = ℕ} list-room 0))
+      ap (λ (a : ℤ). listed number (desk-of r t) a .printed) (e ∙ ap (λ (x : Outcome (List ℕ)). x .answer) (on-card r k (list t o)) ∙ same-answer (device-of r) (book-of r) t o (replicate list-room 0) l (length-replicate {A = ℕ} list-room 0))
 
   -- a refusal is printed as one
   pub list-refused : (z : ℤ) → z ≡ on-record r (list t o) .answer → ltZ z (pos 0) ≡ true → says number z ≡ on-call number (desk-of r t) list-draft .printed
@@ -117,14 +112,14 @@ module _ (r t o : List ℕ) (k : Card r) (l : length o ≡ list-room) (number : 
       L = ranges (device-of r) (book-of r) t
 
       same : pos n ≡ on-book (device-of r) (book-of r) (list t o) .answer
-      same = e ∙ ap (λ (x : Outcome (List ℕ)). x .answer) on-card
+      same = e ∙ ap (λ (x : Outcome (List ℕ)). x .answer) (on-card r k (list t o))
 
       go : Cases (device-of r) (book-of r) t o (sized t) (on-book (device-of r) (book-of r) (list t o))
           → (range-size * n ≤ length o′) × (shows number (pos n) (ranges-in n o′) ≡ on-call number (desk-of r t) list-draft .printed)
       go (inl (m, a)) = absurd (let q : _≡_ {A = ℕ} 0 1 = cc same in omega arith)
       go (inr (s, a, w)) =
           let count : n ≡ length L = cc same in
-          let bytes : o′ ≡ over (join-in range-bytes L) o = q ∙ ap (λ (x : Outcome (List ℕ)). x .output) on-card ∙ w in (
+          let bytes : o′ ≡ over (join-in range-bytes L) o = q ∙ ap (λ (x : Outcome (List ℕ)). x .output) (on-card r k (list t o)) ∙ w in (
             rw (bytes, count) (omega (arith, length-append (join-in range-bytes L) (drop (length (join-in range-bytes L)) o), range-length L)),
             rw (bytes, count, read-ranges (device-of r) (book-of r) (k .within) t s o) (rw count at (listed-as (pos n) e)),
           )

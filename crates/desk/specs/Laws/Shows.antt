@@ -1,11 +1,11 @@
 -- What was printed from the first byte on, and a block added to the draft. Assumes nothing.
-use Prim.Native.Nat.{ℕ, _+_, _*_, _/_, _%_, _≤_, _<_}
-use mathlib.Core.Path.{_≡_, refl, sym, _∙_}
-use mathlib.Core.List.{List, [], _++_}
+use Prim.Native.Nat.{ℕ}
+use mathlib.Core.Path.{_≡_, refl, sym}
+use mathlib.Core.List.{List, []}
 use native.Mathlib.Omega.{arith}
 use lib.IntN.{ℤ}
-use lib.ListN.{length, take, drop, length-append}
-use lib.Seq.{take-at, length-take-le}
+use lib.ListN.{length, drop, length-append}
+use lib.Seq.{take-at}
 use Rattle.model.specs.Laws.Parts.{splice, splice-none}
 use Rattle.model.specs.Bounded.{join-in}
 use Rattle.model.specs.Program.{shows}

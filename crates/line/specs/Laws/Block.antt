@@ -14,8 +14,10 @@ use borrow.Author.Tests.{le-ltb}
 use Rattle.model.specs.Limits.{block-size}
 use Rattle.model.specs.Tasks.{word, lifted, block}
 use Rattle.model.specs.Kinds.{number-of}
+use Rattle.model.specs.Record.{bytes16}
+use Rattle.model.specs.Program.{block-bytes}
 use Rattle.model.specs.Laws.Parts.{splice, part-splice, getD-part, set-two, splice-more}
-use Rattle.line.specs.Block.{word-bytes, block-bytes}
+use Rattle.line.specs.Block.{call-bytes}
 use Rattle.line.specs.declared.call.BlockCall.{BlockCall}
 
 -- ---- two's complement
@@ -35,41 +37,53 @@ bits-small (negsuc n) h = omega arith
 -- ---- six stores
 
 pub six-stores : (r : List ℕ) (at : ℕ) (b : BlockCall) → at + block-size ≤ length r
-    → splice (splice (set (set r at (b .column)) (at + 1) (number-of (b .kind))) (at + 2) 2 (word-bytes (b .bottom))) (at + 4) 2 (word-bytes (b .top)) ≡ splice r at block-size (block-bytes b)
+    → splice (splice (set (set r at (b .column)) (at + 1) (number-of (b .kind))) (at + 2) 2 (bytes16 (ofZ w16 (b .bottom)))) (at + 4) 2 (bytes16 (ofZ w16 (b .top))) ≡ splice r at block-size (call-bytes b)
+unfolding block-bytes bytes16
 six-stores r at b h =
     let head = b .column ∷ number-of (b .kind) ∷ [] in
-    let e : at + 2 + 2 ≡ at + 4 = omega arith in
-    rw (set-two r at (b .column) (number-of (b .kind)) (omega arith), splice-more r at 2 2 head (word-bytes (b .bottom)) (omega arith) refl)
-    (splice-more r at 4 2 (head ++ word-bytes (b .bottom)) (word-bytes (b .top)) (omega arith) refl)
+    rw (set-two r at (b .column) (number-of (b .kind)) (omega arith), splice-more r at 2 2 head (bytes16 (ofZ w16 (b .bottom))) (omega arith) refl)
+    (splice-more r at 4 2 (head ++ bytes16 (ofZ w16 (b .bottom))) (bytes16 (ofZ w16 (b .top))) (omega arith) refl)
 
 -- ---- read back
 
-module _ (r : List ℕ) (i : ℕ) (b : BlockCall) (fits : block-size * i + block-size ≤ length r) where
+module _ (r : List ℕ) (i : ℕ) (b : BlockCall) (fits : block-size * i + block-size ≤ length r) (f : SFits w16 (b .bottom)) (g : SFits w16 (b .top)) where
   written : List ℕ
-  written = splice r (block-size * i) block-size (block-bytes b)
+  written = splice r (block-size * i) block-size (call-bytes b)
 
-  byte : (k : ℕ) → k < block-size → getD written (block-size * i + k) 0 ≡ getD (block-bytes b) k 0
-  unfolding written
-  byte k h = sym (getD-part written (block-size * i) block-size k 0 h) ∙ ap (λ p. getD p k 0) (part-splice r (block-size * i) block-size (block-bytes b) fits refl)
+  byte : (k : ℕ) → k < block-size → getD written (block-size * i + k) 0 ≡ getD (call-bytes b) k 0
+  unfolding written block-bytes bytes16
+  byte k h = sym (getD-part written (block-size * i) block-size k 0 h) ∙ ap (λ p. getD p k 0) (part-splice r (block-size * i) block-size (call-bytes b) fits refl)
 
   first-byte : getD written (block-size * i) 0 ≡ b .column
+  unfolding block-bytes
   first-byte = sym (ap (λ n. getD written n 0) (add-zero (block-size * i))) ∙ byte 0 (omega arith)
 
-  word-at : (k n : ℕ) → k + 1 < block-size → getD (block-bytes b) k 0 ≡ n % 256 → getD (block-bytes b) (k + 1) 0 ≡ n / 256 → word written (block-size * i + k) ≡ n
+  second-byte : getD written (block-size * i + 1) 0 ≡ number-of (b .kind)
+  unfolding block-bytes
+  second-byte = byte 1 (omega arith)
+
+  word-at : (k n : ℕ) → k + 1 < block-size → n < 65536 → getD (call-bytes b) k 0 ≡ n % 256 → getD (call-bytes b) (k + 1) 0 ≡ n / 256 % 256 → word written (block-size * i + k) ≡ n
   unfolding word
-  word-at k n h p q =
+  word-at k n h l p q =
       let e : block-size * i + k + 1 ≡ block-size * i + (k + 1) = omega arith in
       rw (e, byte k (omega arith), byte (k + 1) h, p, q) (omega arith)
 
+  bottom-read : word written (block-size * i + 2) ≡ ofZ w16 (b .bottom)
+  unfolding block-bytes bytes16
+  bottom-read = word-at 2 (ofZ w16 (b .bottom)) (omega arith) (bits-small (b .bottom) (f .sfits)) refl refl
+
+  top-read : word written (block-size * i + 4) ≡ ofZ w16 (b .top)
+  unfolding block-bytes bytes16
+  top-read = word-at 4 (ofZ w16 (b .top)) (omega arith) (bits-small (b .top) (g .sfits)) refl refl
+
   -- block i of the draft is the block that the call says, with its bottom and top in two's complement
-  pub block-read : block (splice r (block-size * i) block-size (block-bytes b)) i
+  pub block-read : block (splice r (block-size * i) block-size (call-bytes b)) i
       ≡ record { column = b .column; kind = number-of (b .kind); low = lifted (ofZ w16 (b .bottom)); high = lifted (ofZ w16 (b .top)) }
   unfolding block written
-  block-read = rw (first-byte, byte 1 (omega arith), word-at 2 (ofZ w16 (b .bottom)) (omega arith) refl refl, word-at 4 (ofZ w16 (b .top)) (omega arith) refl refl)
+  block-read = rw (first-byte, second-byte, bottom-read, top-read)
 
   -- and its bottom and top are the values that the call has
-  pub values-read : SFits w16 (b .bottom) → SFits w16 (b .top) → let t = splice r (block-size * i) block-size (block-bytes b) in
+  pub values-read : let t = splice r (block-size * i) block-size (call-bytes b) in
       (toZ w16 (word t (block-size * i + 2)) ≡ b .bottom) × (toZ w16 (word t (block-size * i + 4)) ≡ b .top)
   unfolding written
-  values-read f g =
-      rw (word-at 2 (ofZ w16 (b .bottom)) (omega arith) refl refl, word-at 4 (ofZ w16 (b .top)) (omega arith) refl refl) (toZ-ofZ {w = w16} f, toZ-ofZ {w = w16} g)
+  values-read = rw (bottom-read, top-read) (toZ-ofZ {w = w16} f, toZ-ofZ {w = w16} g)

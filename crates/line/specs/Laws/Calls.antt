@@ -194,9 +194,9 @@ unfolding height-field number
 never e = let z : _≡_ {A = ℕ} 0 1 = cc in omega arith
 
 module _ (s : List ℕ) where
-  pub too-long : max-line < length s → sheet-line s ≡ none
+  pub line-long : max-line < length s → sheet-line s ≡ none
   unfolding sheet-line
-  too-long h = rw (lt-leb (length s) max-line h)
+  line-long h = rw (lt-leb (length s) max-line h)
 
   lost : six (fields s) ≡ none → sheet-line s ≡ none
   unfolding sheet-line

@@ -1,7 +1,7 @@
 -- The line of rows and kinds by its two fields. Assumes nothing.
 use Prim.Native.Nat.{ℕ, suc, _+_, _-_, _≤_, _<_}
 use mathlib.Core.Path.{_≡_, refl, sym, ap, _∙_}
-use mathlib.Core.Bool.{true, false, cond, _&&_, true≢false, false≢true}
+use mathlib.Core.Bool.{true, false, cond, _&&_}
 use mathlib.Core.Option.{Option, none, some}
 use mathlib.Core.List.{List, [], _∷_, _++_}
 use native.Mathlib.Omega.{arith}
@@ -15,20 +15,12 @@ use borrow.Author.Tests.{eq-eqb, ne-eqb, le-leb, lt-leb}
 use Rattle.model.specs.Limits.{max-line, max-number}
 use Rattle.model.specs.Columns.{Device}
 use Rattle.model.specs.Sheet.{with-some, fields, natural-field, kind-letter, kind-letters, kinds-field, device-line}
-use Rattle.line.specs.Fields.{word, after, natural-at}
-use Rattle.line.specs.Device.{Says, known, or-zero, kind-or-zero, kinds-of, rows-of, kinds-left}
-use Rattle.line.specs.Laws.Fields.{cond-same, and-right, start, field-is, fields-more, fields-less, field-part}
+use Rattle.line.specs.Fields.{word, natural-at}
+use Rattle.line.specs.Device.{known, or-zero, kind-or-zero, kinds-of, rows-of, kinds-left}
+use Rattle.line.specs.Laws.Fields.{cond-same, and-right, start, field-is, fields-more, fields-less, field-part, after-is, until-none}
 use Rattle.line.specs.Laws.Calls.{natural-lost}
 use Rattle.line.specs.declared.device.Rows.the-variants as rows
 use Rattle.line.specs.declared.fields.Natural.the-variants as nat
-
--- ---- what a test says
-
-pub says-yes : {P : Type 0} → P → Says P true
-says-yes p = record { yes = λ e. p; no = λ e. absurd (true≢false e) }
-
-pub says-no : {P : Type 0} → (P → ⊥) → Says P false
-says-no h = record { yes = λ e. absurd (false≢true e); no = λ e. h }
 
 -- ---- letters
 
@@ -115,21 +107,17 @@ module _ (s : List ℕ) where
 
   -- no kinds
   pub no-kinds : {at : ℕ} → at ≡ start s 0 1 → length s ≤ at → device-line s ≡ none
-  unfolding word kinds-field
-  no-kinds {at} here h = kinds-lost (rw (field-is s 1, ← here, drop-of-length-le s h))
+  unfolding kinds-field
+  no-kinds {at} here h = kinds-lost (rw (field-is s 1, ← here, until-none 32 s at h))
 
   module _ (at end : ℕ) (here : at ≡ start s 0 1) (ends : end ≡ at + length (word (drop at s))) where
     kinds-are : getD (fields s) 1 [] ≡ word (drop at s)
     kinds-are = rw here (field-is s 1)
 
-    next : after s at ≡ end + 1
-    unfolding after
-    next = omega arith
-
     -- a third field
     pub third-field : end < length s → device-line s ≡ none
     third-field h =
-        let n = fields-more s 2 (rw (← here, next) (omega arith)) in
+        let n = fields-more s 2 (rw (← here, after-is s at end ends) (omega arith)) in
         line-two ∙ rw (ne-eqb (length (fields s)) 2 (λ e. omega arith), and-right (leb (length s) max-line))
 
     module _ (there : at < length s) (last : length s ≤ end) where
@@ -149,7 +137,7 @@ module _ (s : List ℕ) where
       unfolding two
       device-is short r k =
           let more = fields-more s 1 (rw (← here) (omega arith)) in
-          let less = fields-less s 2 (rw (← here, next) (omega arith)) in
+          let less = fields-less s 2 (rw (← here, after-is s at end ends) (omega arith)) in
           line-two ∙ rw (le-leb (length s) max-line short, eq-eqb (length (fields s)) 2 (omega arith), r, letters-are, letters-known (drop at s) k)
 
 -- what the code answers and leaves

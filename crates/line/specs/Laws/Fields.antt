@@ -13,7 +13,7 @@ use borrow.Author.Tests.{eq-eqb, ne-eqb, lt-ltb, le-ltb, le-leb, lt-leb}
 use Rattle.runs.specs.Laws.Tests.{lt-or-ge}
 use Rattle.model.specs.Bounded.{all-in}
 use Rattle.model.specs.Sheet.{grown, fields, digit, decimal, natural, number, provided, natural-field, height-field}
-use Rattle.line.specs.Fields.{word, after, most-read, small, capped, digits-of, one-byte, natural-with, height-with, byte-at, natural-at, height-at}
+use Rattle.line.specs.Fields.{until, word, after, most-read, small, capped, digits-of, one-byte, natural-with, height-with, byte-at, natural-at, height-at}
 use Rattle.line.specs.declared.fields.One.the-variants as one
 use Rattle.line.specs.declared.fields.Natural.the-variants as nat
 use Rattle.line.specs.declared.fields.Height.the-variants as high
@@ -64,13 +64,13 @@ unfolding natural
 nought-led y l = rw (ne-eqb (suc (length l)) 0 (λ e. omega arith), and-right (all-in digit (48 ∷ y ∷ l)))
 
 module _ (s : List ℕ) (i : ℕ) (h : i < length s) where
-  pub word-stop : getD s i 0 ≡ 32 → length (word (drop i s)) ≡ 0
-  unfolding word
-  word-stop e = rw (drop-cons s i 0, eq-eqb _ _ e)
+  pub until-stop : (b : ℕ) → getD s i 0 ≡ b → length (until b (drop i s)) ≡ 0
+  unfolding until
+  until-stop b e = rw (drop-cons s i 0, eq-eqb _ _ e)
 
-  pub word-step : (getD s i 0 ≡ 32 → ⊥) → length (word (drop i s)) ≡ suc (length (word (drop (i + 1) s)))
-  unfolding word
-  word-step e = rw (drop-cons s i 0, ne-eqb _ _ e, add-one)
+  pub until-step : (b : ℕ) → (getD s i 0 ≡ b → ⊥) → length (until b (drop i s)) ≡ suc (length (until b (drop (i + 1) s)))
+  unfolding until
+  until-step b e = rw (drop-cons s i 0, ne-eqb _ _ e, add-one)
 
   pub too-low : (v : ℕ) → getD s i 0 < 48 → digits-of v (drop i s) ≡ digits.None
   unfolding digits-of all-in digit
@@ -80,9 +80,9 @@ module _ (s : List ℕ) (i : ℕ) (h : i < length s) where
   unfolding digits-of all-in digit
   too-high v a e = rw (drop-cons s i 0, le-leb 48 (getD s i 0) a, lt-leb (getD s i 0) 57 e)
 
-  pub too-long : (v : ℕ) → 9999 < v → digits-of v (drop i s) ≡ digits.None
+  pub too-great : (v : ℕ) → 9999 < v → digits-of v (drop i s) ≡ digits.None
   unfolding digits-of decimal
-  too-long v e =
+  too-great v e =
       rw (drop-cons s i 0, small-no (decimal (10 * v + (getD s i 0 - 48)) (drop (suc i) s)) (omega (arith, decimal-grows (drop (suc i) s) (10 * v + (getD s i 0 - 48)))))
       (cond-same (all-in digit (getD s i 0 ∷ drop (suc i) s)) digits.None)
 
@@ -99,13 +99,13 @@ module _ (s : List ℕ) (i : ℕ) (h : i < length s) where
   pub natural-led : getD s i 0 ≡ 48 → i + 1 < length s → capped (natural (drop i s)) ≡ digits.None
   natural-led e l = rw (drop-cons s i 0, e, ← add-one i, drop-cons s (i + 1) 0 l) (nought-led (getD s (i + 1) 0) (drop (suc (i + 1)) s))
 
-pub natural-none : (s : List ℕ) (i : ℕ) → length s ≤ i → capped (natural (drop i s)) ≡ digits.None
+pub natural-empty : (s : List ℕ) (i : ℕ) → length s ≤ i → capped (natural (drop i s)) ≡ digits.None
 unfolding natural
-natural-none s i h = rw (drop-of-length-le s h)
+natural-empty s i h = rw (drop-of-length-le s h)
 
-pub word-end : (s : List ℕ) (i : ℕ) → length s ≤ i → length (word (drop i s)) ≡ 0
-unfolding word
-word-end s i h = rw (drop-of-length-le s h)
+pub until-none : (b : ℕ) (s : List ℕ) (i : ℕ) → length s ≤ i → until b (drop i s) ≡ []
+unfolding until
+until-none b s i h = rw (drop-of-length-le s h)
 
 pub digits-end : (s : List ℕ) (i v : ℕ) → length s ≤ i → v ≤ most-read → digits-of v (drop i s) ≡ digits.Value v
 unfolding digits-of all-in decimal
@@ -114,7 +114,7 @@ digits-end s i v h l = rw (drop-of-length-le s h, le-leb v most-read l)
 -- ---- a field as the part of the line up to its end
 
 word-take : (l : List ℕ) → take (length (word l)) l ≡ word l
-unfolding word
+unfolding until
 word-take [] = refl
 word-take (x ∷ l) = go (eqb x 32) (word-take l)
   where
@@ -126,7 +126,7 @@ module _ (s : List ℕ) (at end : ℕ) (ends : end ≡ at + length (word (drop a
   pub field-part : take (end - at) (drop at s) ≡ word (drop at s)
   field-part = let e : end - at ≡ length (word (drop at s)) = omega arith in rw e (word-take (drop at s))
 
-  after-is : after s at ≡ end + 1
+  pub after-is : after s at ≡ end + 1
   unfolding after
   after-is = omega arith
 
@@ -155,8 +155,7 @@ module _ (s : List ℕ) (at end : ℕ) (ends : end ≡ at + length (word (drop a
 -- past the end there is no field
 module _ (s : List ℕ) (at : ℕ) (past : length s ≤ at) where
   empty : word (drop at s) ≡ []
-  unfolding word
-  empty = rw (drop-of-length-le s past)
+  empty = until-none 32 s at past
 
   pub byte-past : byte-at s at ≡ one.Bad
   unfolding byte-at
@@ -186,7 +185,7 @@ rest l n = let there = fields (drop (suc n) l) in cond (ltb n (length l)) there 
 
 -- the first field is what stands before the first space
 first-field : (l : List ℕ) → fields l ≡ word l ∷ rest l (length (word l))
-unfolding fields word rest
+unfolding fields until rest
 first-field [] = refl
 first-field (x ∷ l) = go (eqb x 32) (first-field l)
   where
@@ -223,10 +222,6 @@ module _ (s : List ℕ) where
   start-past at zero = omega arith
   start-past at (suc k) = omega (arith, start-past (after s at) k, after-past at)
 
-  word-past : (at : ℕ) → length s < at → word (drop at s) ≡ []
-  unfolding word
-  word-past at h = rw (drop-of-length-le s {i = at} (omega arith))
-
   from-next : (at k : ℕ) → getD (from s at) (suc k) [] ≡ getD (from s (after s at)) k []
   from-next at k = go (lt-or-ge (length s) at)
     where
@@ -238,7 +233,7 @@ module _ (s : List ℕ) where
   from-first at = go (lt-or-ge (length s) at)
     where
       go : (length s < at) ⊎ (at ≤ length s) → getD (from s at) 0 [] ≡ word (drop at s)
-      go (inl h) = rw (from-past at h, word-past at h)
+      go (inl h) = rw (from-past at h, until-none 32 s at (omega arith))
       go (inr h) = rw (from-step at h)
 
   field-from : (at k : ℕ) → getD (from s at) k [] ≡ word (drop (start s at k) s)
@@ -276,9 +271,8 @@ module _ (s : List ℕ) where
 
   -- a field that is not empty starts before the end
   pub field-there : (at : ℕ) → (word (drop at s) ≡ [] → ⊥) → at < length s
-  unfolding word
   field-there at h = go (lt-or-ge at (length s))
     where
       go : (at < length s) ⊎ (length s ≤ at) → at < length s
       go (inl l) = l
-      go (inr l) = absurd (h (rw (drop-of-length-le s l)))
+      go (inr l) = absurd (h (until-none 32 s at l))

@@ -6,16 +6,14 @@ use mathlib.Core.Logic.{_⊎_, inl, inr}
 use mathlib.Core.Bool.{true, false}
 use mathlib.Core.List.{List, [], _∷_, _++_, append-assoc}
 use native.Mathlib.Omega.{arith}
-use lib.ListN.{length, getD, set, take, length-append}
-use lib.Seq.{length-take-le, take-suc, take-length}
-use native.Mathlib.Numerals.{add-one}
+use lib.ListN.{length, set, take, drop, length-append}
 use lib.Dec.{leb·suc-zero}
 use lib.IntN.{ℤ, pos, negsuc, natAbs, _-ℤ_}
 use lib.Signed.{mag, ltZ}
 use borrow.Author.Tests.{lt-ltb, le-ltb}
 use Rattle.runs.specs.Laws.Tests.{lt-or-ge}
 use Rattle.model.specs.Sheet.{text, digits, shown, output-line}
-use Rattle.model.specs.Laws.Parts.{splice, set-splice, splice-more, splice-none, splice-grow}
+use Rattle.model.specs.Laws.Parts.{splice, set-splice, splice-more}
 use Rattle.line.specs.Print.{Printed}
 
 -- ---- digits
@@ -104,18 +102,10 @@ module _ {before : List ℕ} {at : ℕ} where
   pub printed-cons : (x : ℕ) {last : List ℕ} {n : ℕ} {u : List ℕ} → at < length before → Printed (set before at x) last (at + 1) n u → Printed before last at n (x ∷ u)
   printed-cons x h q = printed-more (omega arith) (printed-byte x h) q
 
--- a text copied byte by byte
-module _ (before t : List ℕ) (at : ℕ) where
-  pub copied-none : before ≡ splice before at 0 (take 0 t)
-  copied-none = sym (splice-none before at)
-
-  pub copied-more : {out : List ℕ} {i : ℕ} → at + length t ≤ length before → i < length t → out ≡ splice before at i (take i t)
-      → set out (at + i) (getD t i 0) ≡ splice before at (i + 1) (take (i + 1) t)
-  copied-more {i = i} room h e =
-      rw (e, splice-grow before at i (take i t) (getD t i 0) (omega arith) (length-take-le i t (omega arith)), add-one i, take-suc t i 0 h)
-
-  pub copied-all : {out : List ℕ} {i : ℕ} → i ≡ length t → out ≡ splice before at i (take i t) → Printed before out at (at + i) t
-  copied-all e h = rw e (record { bytes = rw (e, take-length t) at h; place = refl })
+-- a text put in the place of a part of the same length
+pub printed-part : (before t : List ℕ) (at : ℕ) {end : ℕ} {part : List ℕ} → end ≡ at + length t → part ≡ t → Printed before (take at before ++ (part ++ drop (end - at) (drop at before))) at end t
+unfolding splice
+printed-part before t at {end} e p = let k : end - at ≡ length t = omega arith in record { bytes = rw (k, p); place = e }
 
 -- a line of output: its six numbers and its newline
 regroup : (w a b c d e f n : List ℕ) → a ++ w ++ b ++ w ++ c ++ w ++ d ++ w ++ e ++ w ++ f ++ n ≡ a ++ (w ++ b) ++ (w ++ c) ++ (w ++ d) ++ (w ++ e) ++ (w ++ f) ++ n

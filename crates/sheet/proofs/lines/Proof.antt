@@ -5,7 +5,6 @@ use mathlib.Core.Path.{_≡_, refl, sym, _∙_}
 use Prim.Native.Nat.{_≤_, _+_, _-_}
 use native.Mathlib.Omega.{arith}
 use lib.ListN.{length}
-use lib.Seq.{length-take-le}
 use Rattle.model.specs.Limits.{list-room}
 use Rattle.desk.specs.Desk.{draft-room, output-room, Card, Drafted}
 use Rattle.sheet.proofs.lines.Statement.{statement}
@@ -48,14 +47,14 @@ on-line-requires c κs =
     let i = c .before .before .before .before .before .before .before .loop .inv in
     record { is-card = i .1; drafted = i .2; room = record { lists = i .4; prints = omega (arith, i .5) } }
 
-array-share-prefix-out : tie.Need-array-share-prefix-out Inv-loop μ-loop
-array-share-prefix-out c = search needs
+slice-aggregate-write : tie.Need-slice-aggregate-write Inv-loop μ-loop
+slice-aggregate-write c =
+    let y = c .before .before .before .before .before .before in
+    let i = y .before .before .before .before .before .before .before .before .loop .inv in
+    sym (y .on-line .kept .1 .1 .1 .1 .1 .1 .0 ∙ i .5)
 
-slice-aggregate-write-all : tie.Need-slice-aggregate-write-all Inv-loop μ-loop
-slice-aggregate-write-all c = sym (length-take-le _ _ (search needs))
-
-write-all-requires : tie.Need-write-all-requires Inv-loop μ-loop
-write-all-requires c κs = search needs
+write-requires : tie.Need-write-requires Inv-loop μ-loop
+write-requires c κs = search needs
 
 add-number : tie.Need-add-number Inv-loop μ-loop
 add-number c = search needs
@@ -84,4 +83,4 @@ pub lines-spec : {M : Type 1} → statement M
 lines-spec =
     tie.close
     (tie.spec Inv-loop μ-loop loop-holds line-end-requires slice-aggregate-on-line sub-on-line part-on-line-start part-on-line-end slice-aggregate-on-line-2
-    slice-aggregate-on-line-3 on-line-requires array-share-prefix-out slice-aggregate-write-all write-all-requires add-number add-at loop-less loop-again same-length returns)
+    slice-aggregate-on-line-3 on-line-requires slice-aggregate-write write-requires add-number add-at loop-less loop-again same-length returns)

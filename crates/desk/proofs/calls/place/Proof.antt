@@ -1,8 +1,6 @@
 -- `desk::calls::place` meets its contract: the call's answer, printed. Assumes nothing.
 use borrow.Author.Needs.{needs}
-use mathlib.Core.Path.{_≡_, ap, _∙_}
 use mir.Syntax.{w32}
-use mir.Facts.{toZ-ofZ}
 use Rattle.signed.proofs.Signed.{widens, widened, read}
 use Rattle.desk.proofs.calls.place.Statement.{statement}
 use Rattle.desk.proofs.calls.place.Tie as tie

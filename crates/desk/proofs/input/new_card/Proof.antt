@@ -1,7 +1,6 @@
 -- `desk::input::new_card` meets its contract: the line's rows and kinds, handed to new. Assumes nothing.
 use borrow.Author.Needs.{needs}
-use mathlib.Core.Path.{_≡_, sym, ap, _∙_}
-use mathlib.Core.List.{List}
+use mathlib.Core.Path.{sym}
 use Prim.Native.Nat.{_≤_}
 use lib.ListN.{length, replicate}
 use lib.Seq.{length-take-le}

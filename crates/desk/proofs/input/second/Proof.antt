@@ -1,6 +1,6 @@
 -- `desk::input::second` meets its contract. Assumes nothing.
 use borrow.Author.Needs.{needs}
-use mathlib.Core.Path.{_≡_, _∙_}
+use mathlib.Core.Path.{_∙_}
 use lib.ListN.{take, drop}
 use mir.Syntax.{w32}
 use Prim.Native.Nat.{_+_, _-_}

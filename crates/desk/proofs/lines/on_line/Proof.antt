@@ -1,6 +1,6 @@
 -- `desk::lines::on_line` meets its contract: a malformed line, or a line's call. Assumes nothing.
 use borrow.Author.Needs.{needs}
-use mathlib.Core.Path.{_≡_, refl, sym, ap, _∙_}
+use mathlib.Core.Path.{sym, ap, _∙_}
 use lib.ListN.{take}
 use Rattle.line.specs.Calls.{said}
 use Rattle.desk.specs.Desk.{desk-of}
@@ -10,12 +10,12 @@ use Rattle.desk.proofs.lines.on_line.Tie as tie
 
 returns : tie.Need-returns
 returns c =
-    let y = c .before .before in
+    let y = c .before .before .before in
     let e = y .before .before in
     let r = e .before .before in
     let s = r .before .before .before .before .before .before in
-    leaves-malformed (s .args .card .now) (s .pre .is-card) (s .args .number) (take (s .args .used) (s .args .draft .now)) (s .args .draft .now) (s .args .used) refl (s .pre .drafted)
-    (s .args .line .now) (sym (r .read .ensures) ∙ ap said (e .enum-told .given .1)) (y .say .ensures)
+    rw (c .leave .ensures .0, c .leave .ensures .1)
+    (leaves-malformed (s .args .card .now) (s .pre .is-card) (s .args .number) (s .args .draft .now) (s .args .used) (s .pre .drafted) (s .args .line .now) (sym (r .read .ensures) ∙ ap said (e .enum-told .given .1)) (y .say .ensures))
 
 returns-2 : tie.Need-returns-2
 returns-2 c =
@@ -29,5 +29,5 @@ returns-2 c =
 pub on-line-spec : {M : Type 1} → statement M
 on-line-spec =
     tie.close
-    (tie.spec (λ c κs. search needs) (λ c. search needs) (λ c. search needs) (λ c κs. search needs) (λ c. search needs) returns
+    (tie.spec (λ c κs. search needs) (λ c. search needs) (λ c. search needs) (λ c κs. search needs) (λ c κs. search needs) (λ c. search needs) returns
     (λ c κs. search needs) (λ c. search needs) (λ c. search needs) (λ c. search needs) (λ c. search needs) returns-2)

@@ -1,7 +1,7 @@
 -- `desk::ranges::print_ranges` meets its contract. The invariant: the lines of the first i ranges are printed. Assumes nothing.
 use borrow.Author.Needs.{needs}
-use mathlib.Core.Path.{_≡_, refl, sym, _∙_}
-use Prim.Native.Nat.{_≤_, _+_, _*_, _-_}
+use mathlib.Core.Path.{_≡_, refl, _∙_}
+use Prim.Native.Nat.{_≤_, _*_, _-_}
 use native.Mathlib.Omega.{arith}
 use lib.ListN.{length}
 use mir.Syntax.{w32}
@@ -9,9 +9,8 @@ use mir.Val.{toZ, ofZ}
 use mir.Facts.{toZ-ofZ}
 use Rattle.model.specs.Calls.{ranges-in}
 use Rattle.model.specs.Program.{shows}
-use Rattle.line.specs.Print.{Printed}
+use Rattle.line.specs.Print.{Printed, line-room}
 use Rattle.line.specs.Laws.Print.{printed-more}
-use Rattle.desk.specs.Desk.{line-room}
 use Rattle.desk.specs.Laws.Shows.{printed-none, shows-printed}
 use Rattle.desk.specs.Laws.Listing.{shows-more}
 use Rattle.desk.proofs.ranges.print_ranges.Statement.{statement}

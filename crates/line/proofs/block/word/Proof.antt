@@ -1,4 +1,4 @@
--- `line::block::word` meets its contract.
+-- `line::block::word` meets its contract. Assumes nothing.
 use native.Mathlib.Omega.{arith}
 use mir.Syntax.{w32}
 use mir.Facts.{toZ-ofZ}
@@ -19,7 +19,9 @@ cast-result-2 c =
     rw (widened w32 tt (c .fits .value), toZ-ofZ (up-fits (c .args .value) (c .fits .value .sfits))) (nonNeg-pos (u .0), record { fits = omega arith })
 
 returns : tie.Need-returns
-returns c = rw (widened w32 tt (c .fits .value), toZ-ofZ (up-fits (c .args .value) (c .fits .value .sfits))) (up (c .args .value) (c .fits .value .sfits) .2)
+returns c =
+    rw (widened w32 tt (c .fits .value), toZ-ofZ (up-fits (c .args .value) (c .fits .value .sfits)))
+    (up (c .args .value) (c .fits .value .sfits) .2, omega arith)
 
 pub word-spec : {M : Type 1} → statement M
 word-spec = tie.close (tie.spec cast-result add-result cast-result-2 returns)

@@ -1,4 +1,4 @@
--- `line::call::block` meets its contract.
+-- `line::call::block` meets its contract. Assumes nothing.
 use borrow.Author.Needs.{needs}
 use borrow.Author.Tests.{eq-eqb, ne-eqb}
 use mathlib.Core.Path.{_≡_, sym, ap, _∙_}

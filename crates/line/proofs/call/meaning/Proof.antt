@@ -1,4 +1,4 @@
--- `line::call::meaning` meets its contract: each arm is the model's test of the same letter.
+-- `line::call::meaning` meets its contract: each arm is the model's test of the same letter. Assumes nothing.
 use borrow.Author.Needs.{needs}
 use borrow.Author.Tests.{ne-eqb}
 use mir.Facts.{toZ-ofZ}

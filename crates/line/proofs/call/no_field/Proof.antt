@@ -1,4 +1,4 @@
--- `line::call::no_field` meets its contract.
+-- `line::call::no_field` meets its contract. Assumes nothing.
 use borrow.Author.Needs.{needs}
 use borrow.Author.Tests.{eq-eqb, ne-eqb}
 use mir.Facts.{toZ-ofZ}

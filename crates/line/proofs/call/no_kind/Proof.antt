@@ -1,4 +1,4 @@
--- `line::call::no_kind` meets its contract.
+-- `line::call::no_kind` meets its contract. Assumes nothing.
 use borrow.Author.Tests.{ne-eqb}
 use Rattle.model.specs.Sheet.{is}
 use Rattle.line.specs.Laws.Calls.{nought-bits}

@@ -1,4 +1,4 @@
--- `line::call::only_task` meets its contract.
+-- `line::call::only_task` meets its contract. Assumes nothing.
 use borrow.Author.Tests.{eq-eqb, ne-eqb}
 use Rattle.model.specs.Sheet.{is}
 use Rattle.line.specs.Laws.Calls.{nought-bits}

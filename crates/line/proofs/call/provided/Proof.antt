@@ -1,4 +1,4 @@
--- `line::call::provided` meets its contract.
+-- `line::call::provided` meets its contract. Assumes nothing.
 use Rattle.line.proofs.call.provided.Statement.{statement}
 use Rattle.line.proofs.call.provided.Tie as tie
 

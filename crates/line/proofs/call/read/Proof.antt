@@ -1,4 +1,4 @@
--- `line::call::read` meets its contract: each field is the next of the line's fields, and one that is no number makes the line malformed.
+-- `line::call::read` meets its contract: each field is the next of the line's fields, and one that is no number makes the line malformed. Assumes nothing.
 use borrow.Author.Needs.{needs, sfits-of}
 use mathlib.Core.Path.{_≡_, sym, refl}
 use mathlib.Core.List.{List, [], _∷_}
@@ -13,7 +13,7 @@ use Rattle.signed.proofs.Signed.{took}
 use Rattle.model.specs.Limits.{max-number, max-column-field}
 use Rattle.model.specs.Sheet.{fields, natural-field, height-field}
 use Rattle.line.specs.Laws.Fields.{start}
-use Rattle.line.specs.Laws.Calls.{byte-took, natural-took, height-took, natural-within, too-long, letter-lost, task-lost, column-lost, kind-lost, bottom-lost, top-lost, seven-fields, line-is}
+use Rattle.line.specs.Laws.Calls.{byte-took, natural-took, height-took, natural-within, line-long, letter-lost, task-lost, column-lost, kind-lost, bottom-lost, top-lost, seven-fields, line-is}
 use Rattle.line.proofs.call.read.Statement.{statement}
 use Rattle.line.proofs.call.read.Tie as tie
 
@@ -68,7 +68,7 @@ top-back : (c : tie.After-known-told6) → toZ w16 (ofZ w16 (c .before .top .giv
 top-back c = toZ-ofZ (sfits-of {w = w16} {z = c .before .top .given .0 .0} (c .known-told6 .given .0 .1))
 
 returns : tie.Need-returns
-returns c = sym (too-long _ (c .if1 .taken))
+returns c = sym (line-long _ (c .if1 .taken))
 
 returns-2 : tie.Need-returns-2
 returns-2 c = sym (letter-lost _ (took (c .before .before .byte-field .ensures) (c .enum-told .given .1)))

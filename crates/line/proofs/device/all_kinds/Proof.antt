@@ -1,4 +1,4 @@
--- `line::device::all_kinds` meets its contract. The invariant: all letters are kinds where those from i on are.
+-- `line::device::all_kinds` meets its contract. The invariant: all letters are kinds where those from i on are. Assumes nothing.
 use borrow.Author.Needs.{needs}
 use mathlib.Core.Path.{_≡_, refl, sym, ap, _∙_}
 use Prim.Native.Nat.{_≤_, _-_}

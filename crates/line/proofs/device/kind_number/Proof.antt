@@ -1,4 +1,4 @@
--- `line::device::kind_number` meets its contract.
+-- `line::device::kind_number` meets its contract. Assumes nothing.
 use borrow.Author.Needs.{needs}
 use mathlib.Core.Path.{sym, ap, _∙_}
 use Rattle.line.specs.Fields.{kind-said}

@@ -1,4 +1,4 @@
--- `line::device::put_kinds` meets its contract. The invariant: the kinds of the letters passed stand at the front.
+-- `line::device::put_kinds` meets its contract. The invariant: the kinds of the letters passed stand at the front. Assumes nothing.
 use borrow.Author.Needs.{needs}
 use mathlib.Core.Path.{_≡_, refl, _∙_}
 use Prim.Native.Nat.{_≤_, _-_}

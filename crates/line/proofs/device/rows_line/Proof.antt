@@ -1,4 +1,4 @@
--- `line::device::rows_line` meets its contract: two fields, the second all kinds.
+-- `line::device::rows_line` meets its contract: two fields, the second all kinds. Assumes nothing.
 use borrow.Author.Needs.{needs}
 use borrow.Author.Tests.{not-true, not-false}
 use mathlib.Core.Path.{_≡_, refl}

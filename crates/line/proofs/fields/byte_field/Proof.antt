@@ -1,4 +1,4 @@
--- `line::fields::byte_field` meets its contract.
+-- `line::fields::byte_field` meets its contract. Assumes nothing.
 use borrow.Author.Needs.{needs}
 use mathlib.Core.Path.{sym}
 use Rattle.line.specs.Laws.Fields.{byte-past, byte-none, byte-read}

@@ -1,4 +1,4 @@
--- `line::fields::height_field` meets its contract: the field is the part that `signed` reads.
+-- `line::fields::height_field` meets its contract: the field is the part that `signed` reads. Assumes nothing.
 use borrow.Author.Needs.{needs, sfits-of}
 use mathlib.Core.Path.{_≡_, sym}
 use Prim.Native.Nat.{_+_, _-_}

@@ -1,4 +1,4 @@
--- `line::fields::kind_letter` meets its contract: each arm is the test of the same letter.
+-- `line::fields::kind_letter` meets its contract: each arm is the test of the same letter. Assumes nothing.
 use borrow.Author.Tests.{ne-eqb}
 use Rattle.model.specs.Sheet.{kind-letter}
 use Rattle.line.proofs.fields.kind_letter.Statement.{statement}

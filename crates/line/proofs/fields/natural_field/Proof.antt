@@ -1,4 +1,4 @@
--- `line::fields::natural_field` meets its contract: the field is the part that `whole` reads.
+-- `line::fields::natural_field` meets its contract: the field is the part that `whole` reads. Assumes nothing.
 use borrow.Author.Needs.{needs}
 use mathlib.Core.Path.{_≡_, sym}
 use Prim.Native.Nat.{_+_, _-_}

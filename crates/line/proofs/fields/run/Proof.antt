@@ -1,11 +1,11 @@
--- `line::fields::run` meets its contract. The invariant: what the digits from i on add to v is what all of them add to 0.
+-- `line::fields::run` meets its contract. The invariant: what the digits from i on add to v is what all of them add to 0. Assumes nothing.
 use borrow.Author.Needs.{needs}
 use mathlib.Core.Path.{_≡_, sym, _∙_}
 use Prim.Native.Nat.{_≤_, _-_}
 use native.Mathlib.Omega.{arith}
 use lib.ListN.{length, drop}
 use Rattle.line.specs.Fields.{most-read, digits-of}
-use Rattle.line.specs.Laws.Fields.{too-low, too-high, too-long, one-digit, digits-end}
+use Rattle.line.specs.Laws.Fields.{too-low, too-high, too-great, one-digit, digits-end}
 use Rattle.line.proofs.fields.run.Statement.{statement}
 use Rattle.line.proofs.fields.run.Tie as tie
 
@@ -28,7 +28,7 @@ returns-2 c =
 returns-3 : tie.Need-returns-3 Inv-loop μ-loop
 returns-3 c =
     let t = c .before .before .before .before in
-    sym (too-long _ _ (t .loop-test .taken) _ (c .if3 .taken)) ∙ t .before .loop .inv .2
+    sym (too-great _ _ (t .loop-test .taken) _ (c .if3 .taken)) ∙ t .before .loop .inv .2
 
 loop-again : tie.Need-loop-again Inv-loop μ-loop
 loop-again c =

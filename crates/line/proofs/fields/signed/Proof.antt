@@ -1,4 +1,4 @@
--- `line::fields::signed` meets its contract: a number by its first byte, and the number after it.
+-- `line::fields::signed` meets its contract: a number by its first byte, and the number after it. Assumes nothing.
 use borrow.Author.Needs.{needs}
 use mathlib.Core.Path.{_≡_, sym}
 use Prim.Native.Nat.{_≤_}

@@ -1,12 +1,12 @@
--- `line::fields::whole` meets its contract: a natural number by its first digit.
+-- `line::fields::whole` meets its contract: a natural number by its first digit. Assumes nothing.
 use borrow.Author.Needs.{needs}
 use mathlib.Core.Path.{sym, _∙_}
-use Rattle.line.specs.Laws.Fields.{natural-none, natural-zero, natural-led, natural-run}
+use Rattle.line.specs.Laws.Fields.{natural-empty, natural-zero, natural-led, natural-run}
 use Rattle.line.proofs.fields.whole.Statement.{statement}
 use Rattle.line.proofs.fields.whole.Tie as tie
 
 returns : tie.Need-returns
-returns c = sym (natural-none _ _ (c .if1 .taken))
+returns c = sym (natural-empty _ _ (c .if1 .taken))
 
 returns-2 : tie.Need-returns-2
 returns-2 c = sym (natural-zero _ _ (c .before .before .before .if1 .left) (c .before .if2 .taken) (c .if3 .taken))

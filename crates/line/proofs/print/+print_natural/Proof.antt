@@ -1,4 +1,4 @@
--- `line::print::print_natural` meets its contract. It calls itself, and the number falls.
+-- `line::print::print_natural` meets its contract. It calls itself, and the number falls. Assumes nothing.
 use Prim.Native.Nat.{ℕ, _<_, _+_, _/_, _%_}
 use native.Mathlib.Omega.{arith}
 use borrow.Author.Needs.{needs}

@@ -1,4 +1,4 @@
--- `line::print::magnitude` meets its contract.
+-- `line::print::magnitude` meets its contract. Assumes nothing.
 use mathlib.Core.Path.{_≡_, sym}
 use native.Mathlib.Omega.{arith}
 use lib.IntN.{pos, negsuc, _-ℤ_}

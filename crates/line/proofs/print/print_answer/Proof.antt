@@ -1,4 +1,4 @@
--- `line::print::print_answer` meets its contract: a byte and a text.
+-- `line::print::print_answer` meets its contract: a byte and a text. Assumes nothing.
 use borrow.Author.Needs.{needs}
 use mathlib.Core.Path.{_∙_}
 use native.Mathlib.Omega.{arith}

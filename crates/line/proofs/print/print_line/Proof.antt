@@ -1,4 +1,4 @@
--- `line::print::print_line` meets its contract: its texts, one after the other.
+-- `line::print::print_line` meets its contract: its texts, one after the other. Assumes nothing.
 use borrow.Author.Needs.{needs}
 use native.Mathlib.Omega.{arith}
 use lib.ListN.{length-set}

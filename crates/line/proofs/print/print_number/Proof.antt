@@ -1,4 +1,4 @@
--- `line::print::print_number` meets its contract: the sign, and the digits.
+-- `line::print::print_number` meets its contract: the sign, and the digits. Assumes nothing.
 use borrow.Author.Needs.{needs}
 use mathlib.Core.Path.{_≡_, _∙_}
 use mathlib.Core.Bool.{true, false}
