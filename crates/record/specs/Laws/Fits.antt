@@ -5,7 +5,7 @@ use mathlib.Core.Logic.{_⊎_, inl, inr}
 use mathlib.Core.Bool.{Bool, true, false, true≢false, false≢true}
 use mathlib.Core.List.{List}
 use native.Mathlib.Omega.{arith}
-use native.Mathlib.Nat.{zero-add}
+use native.Mathlib.Nat.{zero-add, add-sub-cancel-left}
 use lib.ListN.{length, getD, take, drop, length-take, length-drop}
 use lib.Seq.{ext-getD}
 use Rattle.runs.specs.Intervals.{Interval, interval, Holds}
@@ -40,7 +40,7 @@ lent r c = take (column-at c + column-size - column-at c) (drop (column-at c) r)
 
 lent-part : (r : List ℕ) (c : ℕ) → lent r c ≡ part r (column-at c) column-size
 unfolding part
-lent-part r c = let e : column-at c + column-size - column-at c ≡ column-size = omega arith in rw e
+lent-part r c = rw add-sub-cancel-left
 
 pub lent-is : (r : List ℕ) (c : ℕ) → Listed r c → Part (lent r c) (count-of r c)
 lent-is r c x = record { size = simp (length-take, length-drop) (omega (arith, x .size, x .column)); few = x .few }

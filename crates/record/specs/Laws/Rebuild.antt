@@ -6,6 +6,7 @@ use mathlib.Core.Logic.{_⊎_, inl, inr}
 use mathlib.Core.Bool.{Bool, true, false, true≢false, false≢true}
 use mathlib.Core.List.{List, []}
 use native.Mathlib.Omega.{arith}
+use native.Mathlib.Nat.{add-sub-cancel-left}
 use native.Mathlib.Numerals.{add-one}
 use lib.Dec.{ltb}
 use lib.ListN.{length, getD, take, drop}
@@ -192,8 +193,7 @@ pub device-said : (r : List ℕ) (n k : ℕ) → length r ≡ record-size → n 
     → record { rows = n; kinds = take (kinds-at + k - kinds-at) (drop kinds-at r) } ≡ device-of r
 unfolding device-of part
 device-said r n k l p q h =
-    let e : kinds-at + k - kinds-at ≡ k = omega arith in
-    rw (e, p, ← q) (ap (λ (ks : List ℕ). record { rows = word r rows-at; kinds = ks }) (sym (list-parts r kinds-at k 0 (omega arith))))
+    rw (add-sub-cancel-left, p, ← q) (ap (λ (ks : List ℕ). record { rows = word r rows-at; kinds = ks }) (sym (list-parts r kinds-at k 0 (omega arith))))
 
 module _ (r : List ℕ) where
   pub refused-length : (length r ≡ record-size → ⊥) → false ≡ sound r

@@ -1,10 +1,12 @@
 -- `record::entries::insert_entry`: later entries moved, the entry written, the count raised (`entered-by`). Assumes nothing.
-use Prim.Native.Nat.{_+_, _-_}
-use mathlib.Core.Path.{_≡_, refl, _∙_}
+use Prim.Native.Nat.{_+_}
+use mathlib.Core.Path.{refl, _∙_}
 use native.Mathlib.Omega.{arith}
+use native.Mathlib.Nat.{add-sub-cancel-left}
 use borrow.Author.Needs.{needs}
 use borrow.Rule.Slice.PartMut.{mid-len}
 use lib.ListN.{length-set}
+use Rattle.model.specs.Limits.{entry-size}
 use Rattle.model.specs.Record.{entry-at}
 use Rattle.model.specs.Laws.Parts.{splice}
 use Rattle.record.specs.Laws.Moved.{entered-by}
@@ -42,8 +44,7 @@ write-entry-requires : tie.Need-write-entry-requires
 write-entry-requires c κs = let s = c .before .before .before .before .before .before .before .before in
     let p = s .pre .1 in
     let a = entry-at (s .args .k) in
-    let k : a + 198 - a ≡ 198 = omega arith in
-    (mid-len a (a + 198) (c .before .before .before .raise-entries .last .0) (omega (arith, c .before .before .«record» .given)) ∙ k, p .0, p .1, p .2, p .3)
+    (mid-len a (a + entry-size) (c .before .before .before .raise-entries .last .0) (omega (arith, c .before .before .«record» .given)) ∙ add-sub-cancel-left a entry-size, p .0, p .1, p .2, p .3)
 
 add-record : tie.Need-add-record
 add-record c = search needs
@@ -60,8 +61,7 @@ same-length c = simp length-set (c .before .record2 .given .1 ∙ c .before .bef
 returns : tie.Need-returns
 unfolding splice
 returns c = let s = c .before .before .before .before .before .before .before .before .before .before .before in
-    let k : entry-at (s .args .k) + 198 - entry-at (s .args .k) ≡ 198 = omega arith in
-    entered-by _ _ _ _ _ _ _ refl (omega arith) (omega arith) (c .before .before .write-entry .ensures) (c .before .before .before .before .before .before .raise-entries .ensures) (rw k)
+    entered-by _ _ _ _ _ _ _ refl (omega arith) (omega arith) (c .before .before .write-entry .ensures) (c .before .before .before .before .before .before .raise-entries .ensures) (rw add-sub-cancel-left)
 
 pub insert-entry-spec : {M : Type 1} → statement M
 insert-entry-spec =
