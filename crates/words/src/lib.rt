@@ -91,12 +91,14 @@ pub fn equal(a: &[u8], b: &[u8]) -> bool
     equal_block(&a[at..], &b[at..])
 }
 
+// The lower of two numbers.
 pub fn lower(a: u32, b: u32) -> u32
     ensures { λ r. ⌜ r ≡ min a b ⌝ }
 {
     if a < b { a } else { b }
 }
 
+// The higher of two numbers.
 pub fn higher(a: u32, b: u32) -> u32
     ensures { λ r. ⌜ r ≡ max a b ⌝ }
 {

@@ -1,15 +1,15 @@
 -- A call on any byte string, by the first refusal that applies: what each return of an exported function shows. Assumes nothing.
 use Prim.Native.Nat.{ℕ, _≤_, _<_}
-use mathlib.Core.Path.{_≡_, refl, sym, ap, _∙_}
+use mathlib.Core.Path.{_≡_, sym, ap, _∙_}
 use mathlib.Core.Logic.{_≢_}
 use mathlib.Core.Bool.{true, false}
-use mathlib.Core.Option.{Option, none, some}
+use mathlib.Core.Option.{none, some}
 use mathlib.Core.List.{List, []}
 use borrow.Author.Tests.{eq-eqb, ne-eqb, lt-ltb, le-ltb}
 use lib.IntN.{pos, negℤ}
 use lib.ListN.{length}
 use Rattle.model.specs.Limits.{record-size}
-use Rattle.model.specs.Columns.{Device, columns, device-ok}
+use Rattle.model.specs.Columns.{columns, device-ok}
 use Rattle.model.specs.Book.{intervals}
 use Rattle.model.specs.Record.{record-of, device-of, book-of}
 use Rattle.model.specs.Sound.{sound}

@@ -10,7 +10,7 @@ use lib.ListN.{length, getD, take, drop, length-take, length-drop}
 use lib.Seq.{ext-getD}
 use Rattle.runs.specs.Intervals.{Interval, interval, Holds}
 use Rattle.model.specs.Limits.{max-rows, max-columns, reach, columns-at, kinds-at, column-size, interval-size}
-use Rattle.model.specs.Columns.{columns, height, kind}
+use Rattle.model.specs.Columns.{columns, height}
 use Rattle.model.specs.Tasks.{Block, word, blocks, block, sized, well-formed}
 use Rattle.model.specs.Book.{intervals, block-fits, fits}
 use Rattle.model.specs.Record.{part, column-at, device-of, book-of, listed-intervals}
@@ -24,7 +24,7 @@ use Rattle.model.specs.Laws.Parts.{getD-list, length-list}
 use Rattle.model.specs.Laws.ColumnPart.{word-part}
 use Rattle.model.specs.Laws.Clauses.{clauses-to}
 use Rattle.model.specs.Laws.WriteBack.{said}
-use Rattle.model.specs.Laws.Sound.{columns-said, listed-said, sound-length, sound-within}
+use Rattle.model.specs.Laws.Sound.{columns-said, kind-read, listed-said, sound-length, sound-within}
 use Rattle.column.specs.Part.{Part, interval-at, listed-from, listed-in, holding}
 use Rattle.column.specs.Laws.{holding-in, holder-holds, holding-out}
 use Rattle.column.specs.declared.Interval.{Interval as Read}
@@ -85,11 +85,6 @@ module _ (r : List ℕ) (c b t : ℕ) (x : Listed r c) (h : Held) (e : h ≡ hol
   held-nowhere q = record { yes = λ u. absurd (false≢true u); no = λ u. holding-out b t (listed-intervals r c) (rw (listed-lent r c x) at (sym e ∙ q)) }
 
 -- ---- a block
-
--- the kind of a column of the device that r says
-kind-read : (r : List ℕ) (c : ℕ) → c < getD r columns-at 0 → kind (device-of r) c ≡ getD r (kinds-at + c) 0
-unfolding kind device-of
-kind-read r c q = getD-list (λ c. getD r (kinds-at + c) 0) (getD r columns-at 0) c 0 q
 
 -- a sound record has at most 64 columns, each with at most 64 intervals
 pub few-columns : (r : List ℕ) → sound r ≡ true → getD r columns-at 0 ≤ max-columns

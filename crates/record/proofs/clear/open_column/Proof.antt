@@ -46,7 +46,7 @@ part-free-part-start : tie.Need-part-free-part-start
 part-free-part-start c = search needs
 
 part-free-part-end : tie.Need-part-free-part-end
-part-free-part-end c = let x = c .before .before .before .pre .0 in simp length-set (omega (arith, x .place, x .size))
+part-free-part-end c = let x = c .before .before .before .pre .0 in simp length-set (omega (arith, x .column, x .size))
 
 free-part-requires : tie.Need-free-part-requires
 unfolding part
@@ -59,7 +59,7 @@ add-record-2 : tie.Need-add-record-2
 add-record-2 c = search needs
 
 slice-write-record-2 : tie.Need-slice-write-record-2
-slice-write-record-2 c = let x = c .before .before .before .before .before .before .before .pre .0 in omega (arith, c .before .«record» .given .1, x .place, x .size, length-set (c .before .before .before .before .before .before .before .args .«record» .now) (kinds-at + c .before .before .before .before .before .before .before .args .c) (c .before .before .before .before .before .before .before .args .kind))
+slice-write-record-2 c = let x = c .before .before .before .before .before .before .before .pre .0 in omega (arith, c .before .«record» .given .1, x .column, x .size, length-set (c .before .before .before .before .before .before .before .args .«record» .now) (kinds-at + c .before .before .before .before .before .before .before .args .c) (c .before .before .before .before .before .before .before .args .kind))
 
 same-length-2 : tie.Need-same-length-2
 same-length-2 c = simp length-set (c .before .«record» .given .1 ∙ simp length-set)

@@ -1,6 +1,6 @@
 -- `record::entries::insert_entry`: later entries moved, the entry written, the count raised (`entered-by`). Assumes nothing.
 use Prim.Native.Nat.{_+_}
-use mathlib.Core.Path.{refl, _∙_}
+use mathlib.Core.Path.{_∙_}
 use native.Mathlib.Omega.{arith}
 use native.Mathlib.Nat.{add-sub-cancel-left}
 use borrow.Author.Needs.{needs}
@@ -13,11 +13,8 @@ use Rattle.record.specs.Laws.Moved.{entered-by}
 use Rattle.record.proofs.entries.insert_entry.Statement.{statement}
 use Rattle.record.proofs.entries.insert_entry.Tie as tie
 
-slice-read-n : tie.Need-slice-read-n
-slice-read-n c = search needs
-
-cast-n : tie.Need-cast-n
-cast-n c = search needs
+running-requires : tie.Need-running-requires
+running-requires c κs = search needs
 
 raise-entries-requires : tie.Need-raise-entries-requires
 raise-entries-requires c κs = search needs
@@ -41,7 +38,7 @@ part-write-entry-end : tie.Need-part-write-entry-end
 part-write-entry-end c = search needs
 
 write-entry-requires : tie.Need-write-entry-requires
-write-entry-requires c κs = let s = c .before .before .before .before .before .before .before .before in
+write-entry-requires c κs = let s = c .before .before .before .before .before .before .before .before .before in
     let p = s .pre .1 in
     let a = entry-at (s .args .k) in
     (mid-len a (a + entry-size) (c .before .before .before .raise-entries .last .0) (omega (arith, c .before .before .«record» .given)) ∙ add-sub-cancel-left a entry-size, p .0, p .1, p .2, p .3)
@@ -60,15 +57,14 @@ same-length c = simp length-set (c .before .record2 .given .1 ∙ c .before .bef
 
 returns : tie.Need-returns
 unfolding splice
-returns c = let s = c .before .before .before .before .before .before .before .before .before .before .before in
-    entered-by _ _ _ _ _ _ _ refl (omega arith) (omega arith) (c .before .before .write-entry .ensures) (c .before .before .before .before .before .before .raise-entries .ensures) (rw add-sub-cancel-left)
+returns c = let n = c .before .before .before .before .before .before .before .before .running .ensures in
+    entered-by _ _ _ _ _ _ _ n (omega arith) (omega arith) (c .before .before .write-entry .ensures) (c .before .before .before .before .before .before .raise-entries .ensures) (rw add-sub-cancel-left)
 
 pub insert-entry-spec : {M : Type 1} → statement M
 insert-entry-spec =
     tie.close
     (tie.spec
-    slice-read-n
-    cast-n
+    running-requires
     raise-entries-requires
     mul-a
     add-a
