@@ -28,7 +28,7 @@ pub const BYTES: u32 = 256;
 
 pub const WORDS: u32 = 65536;
 
-// Lengths and offsets in bytes: of the record,
+// The record's length, and where its parts stand.
 pub const RECORD_SIZE: usize = 29188;
 
 pub const ROWS_AT: usize = 0;
@@ -47,12 +47,12 @@ pub const COLUMN_SIZE: usize = 256;
 
 pub const ENTRIES_AT: usize = 16516;
 
-// of an interval, whose bottom stands first,
+// An interval: its bottom stands first.
 pub const INTERVAL_SIZE: usize = 4;
 
 pub const INTERVAL_TOP_AT: usize = 2;
 
-// of a running entry, whose number stands first,
+// A running entry: its number stands first.
 pub const ENTRY_SIZE: usize = 198;
 
 pub const ENTRY_COLUMN_AT: usize = 2;
@@ -63,7 +63,7 @@ pub const ENTRY_BOTTOM_AT: usize = 4;
 
 pub const BLOCKS_AT: usize = 6;
 
-// of a block, whose column stands first,
+// A block: its column stands first.
 pub const BLOCK_SIZE: usize = 6;
 
 pub const BLOCK_KIND_AT: usize = 1;
@@ -72,7 +72,7 @@ pub const BLOCK_BOTTOM_AT: usize = 2;
 
 pub const BLOCK_TOP_AT: usize = 4;
 
-// and of a listed range, whose column stands first.
+// A listed range: its column stands first.
 pub const RANGE_SIZE: usize = 6;
 
 pub const RANGE_STEP_AT: usize = 1;
@@ -81,6 +81,7 @@ pub const RANGE_FIRST_AT: usize = 2;
 
 pub const RANGE_LAST_AT: usize = 4;
 
+// The least output of a listing.
 pub const LIST_ROOM: usize = 24576;
 
 // What choose multiplies a column by in its answer.

@@ -9,6 +9,6 @@ use Rattle.model.specs.Record.{column-part, part, column-at}
 -- column c of r lists no interval
 pub record Closed (r : List ℕ) (c : ℕ) : Type 0 where
   pub size : length r ≡ record-size
-  pub place : c < max-columns
+  pub column : c < max-columns
   pub part-is : part r (column-at c) column-size ≡ column-part []
   pub count-is : getD r (counts-at + c) 0 ≡ 0

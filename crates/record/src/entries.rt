@@ -50,7 +50,7 @@ pub fn number_at(record: &[u8], j: usize) -> u32
 }
 
 // How many tasks run.
-fn running(record: &[u8]) -> usize
+pub fn running(record: &[u8]) -> usize
     requires { ⌜ length (now «record») ≡ record-size ⌝ }
     ensures { λ r. ⌜ r ≡ getD (now («record» .entry)) running-at 0 ⌝ }
 {
@@ -163,7 +163,7 @@ pub fn insert_entry(record: &mut [u8], k: usize, task: &[u8], number: u32, colum
     requires { ⌜ (sized (now task) ≡ true) × (number < words) × (column < 256) × (bottom < words) ⌝ }
     ensures { λ _. ⌜ Entered (now («record» .entry)) (now («record» .exit)) k (record { number = number; column = column; bottom = bottom; task = now (task .entry) }) ⌝ }
 {
-    let n = record[RUNNING_AT] as usize;
+    let n = running(record);
     raise_entries(record, k, n);
     let a = ENTRIES_AT + ENTRY_SIZE * k;
     let e = a + ENTRY_SIZE;
@@ -176,7 +176,7 @@ pub fn remove_entry(record: &mut [u8], k: usize)
     requires { ⌜ (length (now «record») ≡ record-size) × (k < getD (now «record») running-at 0) × (getD (now «record») running-at 0 ≤ max-running) ⌝ }
     ensures { λ _. ⌜ Removed (now («record» .entry)) (now («record» .exit)) k ⌝ }
 {
-    let last = record[RUNNING_AT] as usize - 1;
+    let last = running(record) - 1;
     lower_entries(record, k, last);
     let a = ENTRIES_AT + ENTRY_SIZE * last;
     let e = a + ENTRY_SIZE;

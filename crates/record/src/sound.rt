@@ -4,6 +4,7 @@ use crate::device::device_ok;
 use crate::enter::enter;
 use crate::entries::number_at;
 use crate::entries::read_entry;
+use crate::entries::running;
 use crate::fits::fits;
 use model::COLUMNS_AT;
 use model::KINDS_AT;
@@ -12,7 +13,6 @@ use model::MAX_COLUMNS;
 use model::MAX_RUNNING;
 use model::RECORD_SIZE;
 use model::ROWS_AT;
-use model::RUNNING_AT;
 use task::well_formed;
 use words::equal;
 use words::get16;
@@ -87,12 +87,12 @@ fn enter_all(scratch: &mut [u8], record: &[u8]) -> bool
     requires { ⌜ (length (now «record») ≡ record-size) × Rebuilt (now «record») (now scratch) 0 ⌝ }
     ensures { λ r. ⌜ Step (now («record» .entry)) (now (scratch .exit)) (getD (now («record» .entry)) running-at 0) r ⌝ }
 {
-    let running = wide(record[RUNNING_AT]) as usize;
-    if running > MAX_RUNNING {
+    let count = running(record);
+    if count > MAX_RUNNING {
         return false;
     }
     let mut j = 0;
-    while j < running {
+    while j < count {
         if !enter_entry(scratch, record, j) {
             return false;
         }

@@ -26,10 +26,14 @@ use Rattle.model.specs.Laws.ReadBack.{column-rest, entry-rest, task-size
 
 -- ---- what a sound record says is what it is the record of
 
--- the columns and the running tasks that r says, by its bytes
+-- the columns, their kinds and the running tasks that r says, by its bytes
 pub columns-said : (r : List ℕ) → columns (device-of r) ≡ getD r columns-at 0
 unfolding columns device-of
 columns-said r = length-list (λ c. getD r (kinds-at + c) 0) (getD r columns-at 0)
+
+pub kind-read : (r : List ℕ) (c : ℕ) → c < getD r columns-at 0 → kind (device-of r) c ≡ getD r (kinds-at + c) 0
+unfolding kind device-of
+kind-read r c q = getD-list (λ c. getD r (kinds-at + c) 0) (getD r columns-at 0) c 0 q
 
 pub running-said : (r : List ℕ) → length (book-of r) ≡ getD r running-at 0
 unfolding book-of
@@ -37,11 +41,10 @@ running-said r = length-list (λ j. running-of (part r (entry-at j) entry-size))
 
 module _ (r : List ℕ) (x : Clauses r) where
   kind-said : (c : ℕ) → c < max-columns → getD r (kinds-at + c) 0 ≡ kind (device-of r) c
-  unfolding kind device-of
   kind-said c q = go (lt-or-ge c (getD r columns-at 0))
     where
       go : (c < getD r columns-at 0) ⊎ (getD r columns-at 0 ≤ c) → getD r (kinds-at + c) 0 ≡ kind (device-of r) c
-      go (inl p) = sym (getD-list (λ c. getD r (kinds-at + c) 0) (getD r columns-at 0) c 0 p)
+      go (inl p) = sym (kind-read r c p)
       go (inr p) = x .no-kind (kinds-at + c) (omega arith) (omega arith) ∙ sym (kind-out (device-of r) c (omega (arith, columns-said r)))
 
   -- past the last column, too

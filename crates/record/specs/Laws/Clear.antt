@@ -41,10 +41,10 @@ part-one p top e =
 -- a kind byte written leaves column c as it is
 pub closed-kind : (r : List ℕ) (c k : ℕ) → Closed r c → Closed (set r (kinds-at + c) k) c
 closed-kind r c k x =
-    let q = x .place in
+    let q = x .column in
     record {
       size = length-set r (kinds-at + c) k ∙ x .size;
-      place = x .place;
+      column = x .column;
       part-is = part-set-above r (kinds-at + c) k (column-at c) column-size (omega arith) (omega (arith, x .size)) ∙ x .part-is;
       count-is = getD-set-other r (kinds-at + c) (counts-at + c) k 0 (omega arith) ∙ x .count-is;
     }
@@ -116,7 +116,7 @@ module _ (d : Device) (n : ℕ) (r : List ℕ) (x : Opened d n r) (q : n < max-c
   pub opened-closed : Closed r n
   opened-closed = record {
     size = x .size;
-    place = q;
+    column = q;
     part-is = x .column-is n q ∙ upto-out (λ c. column-part (intervals d [] c)) (λ c. column-part []) n n (omega arith);
     count-is = x .count-is n q ∙ upto-out (λ c. length (intervals d [] c)) (λ c. 0) n n (omega arith);
   }

@@ -1,5 +1,5 @@
 -- A record whose columns list the half rows that pass a test, and a block where it stands: what placing and releasing share. Assumes nothing.
-use Prim.Native.Nat.{ℕ, _+_, _*_, _≤_, _<_}
+use Prim.Native.Nat.{ℕ, suc, _+_, _*_, _≤_, _<_}
 use mathlib.Core.Path.{_≡_, sym, _∙_}
 use mathlib.Core.Logic.{_⊎_, inl, inr, _≢_}
 use mathlib.Core.Bool.{Bool, true, false}
@@ -58,7 +58,7 @@ grid-few h n L p q c g u = go (lt-or-ge max-intervals (length L))
   where
     go : (max-intervals < length L) ⊎ (length L ≤ max-intervals) → length L ≤ max-intervals
     go (inr l) = l
-    go (inl l) = absurd (omega (arith, grid-count h n L c g u, mul-le-mul-left {m = 65} {n = length L} (2 * h) l))
+    go (inl l) = absurd (omega (arith, grid-count h n L c g u, mul-le-mul-left {m = suc max-intervals} {n = length L} (2 * h) l))
 
 pub few-runs : (d : Device) (f : ℕ → ℕ → Bool) → d .rows ≤ max-rows → Gridded d f → (c : ℕ) → length (runs-of d f c) ≤ max-intervals
 few-runs d f r g c =

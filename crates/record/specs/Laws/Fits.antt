@@ -8,7 +8,7 @@ use native.Mathlib.Omega.{arith}
 use lib.ListN.{getD}
 use Rattle.runs.specs.Intervals.{Holds}
 use Rattle.model.specs.Limits.{max-rows, max-columns, reach, columns-at, kinds-at}
-use Rattle.model.specs.Columns.{columns, height, kind}
+use Rattle.model.specs.Columns.{columns, height}
 use Rattle.model.specs.Tasks.{Block, blocks, block, sized, well-formed}
 use Rattle.model.specs.Book.{intervals, block-fits, fits}
 use Rattle.model.specs.Record.{device-of, book-of, listed-intervals}
@@ -20,7 +20,7 @@ use Rattle.model.specs.Laws.Limits.{limits-to}
 use Rattle.model.specs.Laws.Ends.{fits-held, held-fits}
 use Rattle.model.specs.Laws.Parts.{getD-list}
 use Rattle.model.specs.Laws.Clauses.{clauses-to}
-use Rattle.model.specs.Laws.Sound.{columns-said, listed-said, sound-length, sound-within}
+use Rattle.model.specs.Laws.Sound.{columns-said, kind-read, listed-said, sound-length, sound-within}
 use Rattle.column.specs.Part.{Part, listed-in, holding}
 use Rattle.column.specs.Laws.Lent.{lent, lent-is, listed-lent}
 use Rattle.column.specs.Laws.Holding.{holding-in, holder-holds, holding-out}
@@ -46,11 +46,6 @@ module _ (r : List ℕ) (c b t : ℕ) (x : Listed r c) (h : Held) (e : h ≡ hol
   held-nowhere q = record { yes = λ u. absurd (false≢true u); no = λ u. holding-out b t (listed-intervals r c) (rw (listed-lent r c (x .size) (x .column) (x .few)) at (sym e ∙ q)) }
 
 -- ---- a block
-
--- the kind of a column of the device that r says
-kind-read : (r : List ℕ) (c : ℕ) → c < getD r columns-at 0 → kind (device-of r) c ≡ getD r (kinds-at + c) 0
-unfolding kind device-of
-kind-read r c q = getD-list (λ c. getD r (kinds-at + c) 0) (getD r columns-at 0) c 0 q
 
 -- a sound record has at most 64 columns, each with at most 64 intervals
 pub few-columns : (r : List ℕ) → sound r ≡ true → getD r columns-at 0 ≤ max-columns

@@ -6,6 +6,7 @@ use mathlib.Core.Logic.{_⊎_, inl, inr}
 use mathlib.Core.Bool.{Bool, true, false, true≢false, false≢true}
 use mathlib.Core.List.{List, []}
 use native.Mathlib.Omega.{arith}
+use native.Mathlib.Nat.{add-sub-cancel-left}
 use native.Mathlib.Numerals.{add-one}
 use lib.Dec.{ltb}
 use lib.ListN.{length, getD, take, drop}
@@ -28,11 +29,12 @@ use Rattle.model.specs.Laws.Record.{no-entry}
 use Rattle.model.specs.Laws.Clauses.{clauses-to}
 use Rattle.model.specs.Laws.WriteBack.{Bytes}
 use Rattle.model.specs.Laws.ReadBack.{getD-in, device-of-record, book-of-record}
-use Rattle.model.specs.Laws.Sound.{running-said, columns-said, record-sound, sound-length, sound-within, sound-record}
+use Rattle.model.specs.Laws.Sound.{running-said, record-sound, sound-length, sound-within, sound-record}
 use Rattle.words.specs.Words.{Same}
 use Rattle.record.specs.Entries.{entry-of, blocks-of, bytes-entry, HasEntry}
 use Rattle.record.specs.Rebuild.{prior, Passes, Ready, Tried, Rebuilt, Step}
 use Rattle.record.specs.Laws.Said.{number-said, in-book, entry-by-bytes, blocks-length}
+use Rattle.record.specs.Laws.Fits.{few-columns}
 use Rattle.record.specs.Laws.Before.{prior-below, prior-above, insert-last, fits-among}
 
 -- whether its number n rises, from its bytes and those of the entry before it
@@ -192,15 +194,14 @@ pub device-said : (r : List ℕ) (n k : ℕ) → length r ≡ record-size → n 
     → record { rows = n; kinds = take (kinds-at + k - kinds-at) (drop kinds-at r) } ≡ device-of r
 unfolding device-of part
 device-said r n k l p q h =
-    let e : kinds-at + k - kinds-at ≡ k = omega arith in
-    rw (e, p, ← q) (ap (λ (ks : List ℕ). record { rows = word r rows-at; kinds = ks }) (sym (list-parts r kinds-at k 0 (omega arith))))
+    rw (add-sub-cancel-left, p, ← q) (ap (λ (ks : List ℕ). record { rows = word r rows-at; kinds = ks }) (sym (list-parts r kinds-at k 0 (omega arith))))
 
 module _ (r : List ℕ) where
   pub refused-length : (length r ≡ record-size → ⊥) → false ≡ sound r
   refused-length h = sym (is-false (sound r) (λ s. h (sound-length r s)))
 
   pub refused-columns : max-columns < getD r columns-at 0 → false ≡ sound r
-  refused-columns h = sym (is-false (sound r) (λ s. omega (arith, columns-said r, limits-to (device-of r) (book-of r) (sound-within r s) .columns)))
+  refused-columns h = sym (is-false (sound r) (λ s. omega (arith, few-columns r s)))
 
   pub refused-device : (d : Device) (ok : Bool) → d ≡ device-of r → ok ≡ device-ok d → ok ≡ false → false ≡ sound r
   refused-device d ok e v f = let h = ap device-ok (sym e) ∙ sym v ∙ f in sym (is-false (sound r) (λ s. clash (within-device (device-of r) (book-of r) (sound-within r s)) h))

@@ -1,9 +1,9 @@
 -- What the bytes of a running entry say. Assumes nothing.
-use Prim.Native.Nat.{ℕ, _+_, _-_, _*_, _≤_, _<_}
+use Prim.Native.Nat.{ℕ, _+_, _*_, _≤_, _<_}
 use mathlib.Core.Path.{_≡_, ap, _∙_}
 use mathlib.Core.List.{List}
 use native.Mathlib.Omega.{arith}
-use native.Mathlib.Nat.{add-zero}
+use native.Mathlib.Nat.{add-zero, add-sub-cancel-left}
 use lib.ListN.{length, getD}
 use Rattle.model.specs.Limits.{max-blocks, block-size, running-at, entry-size, blocks-at}
 use Rattle.model.specs.Tasks.{word, blocks}
@@ -30,9 +30,7 @@ number-said r j q =
 -- the bytes of its blocks are a part of r
 pub blocks-part : (r : List ℕ) (j : ℕ) → blocks-of r j ≡ part r (entry-at j + blocks-at) (block-size * block-count r j)
 unfolding part
-blocks-part r j =
-    let e : entry-at j + blocks-at + block-size * block-count r j - (entry-at j + blocks-at) ≡ block-size * block-count r j = omega arith in
-    rw e
+blocks-part r j = rw add-sub-cancel-left
 
 module _ (r : List ℕ) (j : ℕ) (x : HasEntry r j) where
   pub in-book : j < length (book-of r)

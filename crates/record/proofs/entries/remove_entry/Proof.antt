@@ -1,22 +1,20 @@
 -- `record::entries::remove_entry`: later entries moved, the last wiped, the count lowered (`removed-by`). Assumes nothing.
 use Prim.Native.Nat.{_+_, _-_}
-use mathlib.Core.Path.{_≡_, _∙_}
+use mathlib.Core.Path.{_∙_}
 use native.Mathlib.Omega.{arith}
+use native.Mathlib.Nat.{add-sub-cancel-left}
 use borrow.Author.Needs.{needs}
 use borrow.Rule.Slice.PartMut.{mid-len}
-use lib.ListN.{getD, take, drop, length-set}
-use Rattle.model.specs.Limits.{running-at}
+use lib.ListN.{take, drop, length-set}
+use Rattle.model.specs.Limits.{entry-size}
 use Rattle.model.specs.Record.{entry-at}
 use Rattle.model.specs.Laws.Parts.{splice}
 use Rattle.record.specs.Laws.Moved.{removed-by}
 use Rattle.record.proofs.entries.remove_entry.Statement.{statement}
 use Rattle.record.proofs.entries.remove_entry.Tie as tie
 
-slice-read-last : tie.Need-slice-read-last
-slice-read-last c = search needs
-
-cast-last : tie.Need-cast-last
-cast-last c = search needs
+running-requires : tie.Need-running-requires
+running-requires c κs = search needs
 
 sub-last : tie.Need-sub-last
 sub-last c = search needs
@@ -56,20 +54,19 @@ same-length c = simp length-set (c .before .record2 .given .1 ∙ c .before .bef
 
 returns : tie.Need-returns
 unfolding splice
-returns c = let s = c .before .before .before .before .before .before .before .before .before .before in
-    let last = getD (s .args .«record» .now) running-at 0 - 1 in
+returns c = let n = c .before .before .before .before .before .before .before .before .running in
+    let m = n .ensures in
+    let last = n .result - 1 in
     let a = entry-at last in
     let t = c .before .before .before .before .before .before .lower-entries .last .0 in
-    let k : a + 198 - a ≡ 198 = omega arith in
-    removed-by _ t _ _ last (take (a + 198 - a) (drop a t)) _ (omega arith) (omega arith) (omega arith) (c .before .before .before .before .before .before .lower-entries .ensures)
-    (mid-len a (a + 198) t (omega (arith, c .before .before .before .before .before .«record» .given)) ∙ k) (c .before .before .wipe .ensures) (rw k)
+    removed-by _ t _ _ last (take (a + entry-size - a) (drop a t)) _ (omega arith) (omega arith) (omega arith) (c .before .before .before .before .before .before .lower-entries .ensures)
+    (mid-len a (a + entry-size) t (omega (arith, c .before .before .before .before .before .«record» .given)) ∙ add-sub-cancel-left a entry-size) (c .before .before .wipe .ensures) (rw add-sub-cancel-left)
 
 pub remove-entry-spec : {M : Type 1} → statement M
 remove-entry-spec =
     tie.close
     (tie.spec
-    slice-read-last
-    cast-last
+    running-requires
     sub-last
     lower-entries-requires
     mul-a

@@ -1,9 +1,8 @@
 -- `record::leave::join_column`: the part is lent out of the record's middle. Assumes nothing.
-use Prim.Native.Nat.{_+_, _-_}
-use mathlib.Core.Path.{_≡_}
 use native.Mathlib.Omega.{arith}
+use native.Mathlib.Nat.{add-sub-cancel-left}
 use borrow.Author.Needs.{needs}
-use Rattle.model.specs.Record.{part, column-at}
+use Rattle.model.specs.Record.{part}
 use Rattle.model.specs.Laws.Parts.{splice}
 use Rattle.model.specs.Laws.Record.{put-column}
 use Rattle.record.proofs.leave.join_column.Statement.{statement}
@@ -39,14 +38,12 @@ part-join-end c = search needs
 join-requires : tie.Need-join-requires
 unfolding part
 join-requires c κs = let s = c .before .before .before in
-    let k : column-at (s .args .c) + 256 - column-at (s .args .c) ≡ 256 = omega arith in
-    rw k (s .pre .2)
+    rw add-sub-cancel-left (s .pre .2)
 
 cast-record : tie.Need-cast-record
 unfolding part
 cast-record c = let s = c .before .before .before .before .before .before in
-    let k : column-at (s .args .c) + 256 - column-at (s .args .c) ≡ 256 = omega arith in
-    omega (arith, rw k at (c .before .before .join .ensures .count-is), s .pre .2 .has-room .room)
+    omega (arith, rw add-sub-cancel-left at (c .before .before .join .ensures .count-is), s .pre .2 .has-room .room)
 
 add-record : tie.Need-add-record
 add-record c = search needs
@@ -60,10 +57,9 @@ same-length c = search needs
 returns : tie.Need-returns
 unfolding part splice put-column
 returns c = let s = c .before .before .before .before .before .before in
-    let k : column-at (s .args .c) + 256 - column-at (s .args .c) ≡ 256 = omega arith in
-    let e = rw k at (c .before .before .join .ensures .bytes-are) in
-    let n = rw k at (c .before .before .join .ensures .count-is) in
-    rw (k, e, n)
+    let e = rw add-sub-cancel-left at (c .before .before .join .ensures .bytes-are) in
+    let n = rw add-sub-cancel-left at (c .before .before .join .ensures .count-is) in
+    rw (add-sub-cancel-left, e, n)
 
 pub join-column-spec : {M : Type 1} → statement M
 join-column-spec =

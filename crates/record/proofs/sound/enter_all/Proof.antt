@@ -11,25 +11,19 @@ use Rattle.record.proofs.sound.enter_all.Statement.{statement}
 use Rattle.record.proofs.sound.enter_all.Tie as tie
 
 abbrev Inv-loop : tie.InvT-loop
-Inv-loop scratch₀ «record» running j₀ scratch j = (j ≤ running) × (length scratch ≡ length scratch₀) × Rebuilt «record» scratch j
+Inv-loop scratch₀ «record» count j₀ scratch j = (j ≤ count) × (length scratch ≡ length scratch₀) × Rebuilt «record» scratch j
 
 abbrev μ-loop : tie.MeasureT-loop
-μ-loop scratch₀ «record» running j₀ scratch j = running - j
+μ-loop scratch₀ «record» count j₀ scratch j = count - j
 
-shared-slice-read-wide : tie.Need-shared-slice-read-wide Inv-loop μ-loop
-shared-slice-read-wide c = search needs
-
-wide-requires : tie.Need-wide-requires Inv-loop μ-loop
-wide-requires c κs = search needs
-
-cast-running : tie.Need-cast-running Inv-loop μ-loop
-cast-running c = search needs
+running-requires : tie.Need-running-requires Inv-loop μ-loop
+running-requires c κs = search needs
 
 returns : tie.Need-returns Inv-loop μ-loop
-returns c = let w = c .before in step-refused _ _ _ (refused-running _ (omega (arith, w .wide .ensures .is, c .if1 .taken)))
+returns c = let w = c .before in step-refused _ _ _ (refused-running _ (omega (arith, w .running .ensures, c .if1 .taken)))
 
 loop-holds : tie.Need-loop-holds Inv-loop μ-loop
-loop-holds c = (omega arith, refl, c .before .before .before .before .before .pre .1)
+loop-holds c = (omega arith, refl, c .before .before .before .before .pre .1)
 
 enter-entry-requires : tie.Need-enter-entry-requires Inv-loop μ-loop
 enter-entry-requires c κs = search needs
@@ -56,8 +50,8 @@ returns-3 : tie.Need-returns-3 Inv-loop μ-loop
 returns-3 c =
     let l = c .before in
     let w = l .before .before in
-    let e : l .loop .j ≡ w .wide .result = omega (arith, c .loop-test .left, l .loop .inv .0) in
-    step-made _ _ _ (rw (e, w .wide .ensures .is) at (l .loop .inv .2))
+    let e : l .loop .j ≡ w .running .result = omega (arith, c .loop-test .left, l .loop .inv .0) in
+    step-made _ _ _ (rw (e, w .running .ensures) at (l .loop .inv .2))
 
 pub enter-all-spec : {M : Type 1} → statement M
 enter-all-spec =
@@ -65,9 +59,7 @@ enter-all-spec =
     (tie.spec
     Inv-loop
     μ-loop
-    shared-slice-read-wide
-    wide-requires
-    cast-running
+    running-requires
     returns
     loop-holds
     enter-entry-requires
