@@ -2,10 +2,10 @@
 
 use calls::Calls;
 use oracle::arbitrary::fitting_task;
-use oracle::layout::RECORD_BYTES;
+use oracle::layout::RECORD_SIZE;
 use oracle::rng::Rng;
 use oracle::task::{bytes_of, Block};
-use oracle::{Device, Kind};
+use oracle::{Device, Kind, Position};
 
 /// The number that measured placements use: odd, and amid the even ones of the loads, so that entries are moved.
 pub const PROBE_NUMBER: u32 = 30_001;
@@ -93,7 +93,7 @@ pub fn wide_probe(blocks: usize) -> Probe {
 /// A card without running tasks.
 pub fn empty(subject: &dyn Calls, rows: u32) -> Load {
     let kinds = kinds();
-    let mut record = vec![0; RECORD_BYTES];
+    let mut record = vec![0; RECORD_SIZE];
     assert_eq!(subject.new(&mut record, rows, &kinds), 0);
     Load {
         name: format!("empty, {rows} rows"),
@@ -121,7 +121,7 @@ pub fn busy(subject: &dyn Calls, tasks: usize) -> Load {
         next += 1;
         // Numbers all over the range, so that entries are not only appended.
         let number = next * 40_503 % 32_768 * 2;
-        let (column, bottom) = ((chosen / 1024) as u32, chosen % 1024);
+        let Position { column, bottom } = Position::of_answer(chosen);
         let placed = subject.place(&mut load.record, task.bytes(), number, column, bottom);
         assert_eq!(placed, 0);
         running.push(number);

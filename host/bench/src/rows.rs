@@ -4,8 +4,9 @@ use std::cell::RefCell;
 use std::hint::black_box;
 
 use calls::{Calls, SUBJECTS};
-use oracle::layout::RECORD_BYTES;
-use oracle::listing::OUTPUT_BYTES;
+use oracle::layout::RECORD_SIZE;
+use oracle::listing::LIST_ROOM;
+use oracle::Position;
 
 use crate::loads::{Load, Probe, PROBE_NUMBER};
 use crate::measure::{half, medians, whole, Effort, Work};
@@ -36,7 +37,7 @@ fn row(load: &Load, call: String, mut works: Vec<Work>, effort: Effort) -> Row {
 
 /// New, interval count, and the record's check by itself.
 pub fn simple_rows(load: &Load, effort: Effort) -> Vec<Row> {
-    let made = RefCell::new(vec![0; RECORD_BYTES]);
+    let made = RefCell::new(vec![0; RECORD_SIZE]);
     let new = |subject: &'static dyn Calls| {
         let made = &made;
         whole(move || subject.new(&mut made.borrow_mut(), load.rows, black_box(&load.kinds)))
@@ -64,7 +65,7 @@ pub fn simple_rows(load: &Load, effort: Effort) -> Vec<Row> {
 pub fn change_rows(load: &Load, probe: &Probe, effort: Effort) -> Vec<Row> {
     let chosen = SUBJECTS[0].choose(&load.record, &probe.task);
     assert!(chosen >= 0, "{} has no place for {}", load.name, probe.name);
-    let (column, bottom) = ((chosen / 1024) as u32, chosen % 1024);
+    let Position { column, bottom } = Position::of_answer(chosen);
     let work = |subject: &'static dyn Calls, first: bool| {
         let mut record = load.record.clone();
         half(first, move |is_place| {
@@ -88,7 +89,7 @@ pub fn change_rows(load: &Load, probe: &Probe, effort: Effort) -> Vec<Row> {
 
 /// List and choose of a task, with the matrix scan behind the same check.
 pub fn search_rows(load: &Load, probe: &Probe, effort: Effort) -> Vec<Row> {
-    let output = RefCell::new(vec![0; OUTPUT_BYTES]);
+    let output = RefCell::new(vec![0; LIST_ROOM]);
     let (record, task) = (&load.record, &probe.task);
     let list = |subject: &'static dyn Calls| {
         let output = &output;
@@ -114,7 +115,7 @@ pub fn search_rows(load: &Load, probe: &Probe, effort: Effort) -> Vec<Row> {
 /// Only these two can be called so: the implementations' calls all check the record.
 pub fn search_alone(load: &Load, probe: &Probe, effort: Effort) -> [(String, f64, f64); 2] {
     let record = plain::calls::checked(&load.record).expect("loads are sound");
-    let output = RefCell::new(vec![0; OUTPUT_BYTES]);
+    let output = RefCell::new(vec![0; LIST_ROOM]);
     let task = &probe.task;
     let mut lists = [
         whole(|| plain::calls::search_list(black_box(record), task, &mut output.borrow_mut())),

@@ -8,15 +8,13 @@
 #![deny(missing_docs)]
 #![forbid(unsafe_code)]
 
-use plain::calls::{checked, task};
+use plain::calls::{checked, refusal, task};
 use plain::layout::*;
 use plain::record::{columns, kind, running};
 use plain::task::{Block, Task};
 
 /// The most half rows of a device.
 const MAX_HALF_ROWS: usize = 2 * MAX_ROWS as usize;
-const OUTPUT_SHORT: i32 = -6;
-const NO_POSITION: i32 = -9;
 
 /// What a call gives, or its refusal's number.
 type Answer = Result<i32, i32>;
@@ -32,7 +30,7 @@ pub struct Matrix {
 impl Matrix {
     /// The matrix of a sound record, from its device and its running entries.
     pub fn of(record: &Record) -> Matrix {
-        let rows = word(record, 0);
+        let rows = word(record, ROWS_AT);
         let mut matrix = Matrix {
             free: [[false; MAX_HALF_ROWS]; MAX_COLUMNS],
             kinds: [0; MAX_COLUMNS],
@@ -45,16 +43,17 @@ impl Matrix {
             matrix.free[column][..top(kind, rows) as usize].fill(true);
         }
         for index in 0..running(record) {
-            matrix.hold(&record[entry_range(index)]);
+            matrix.hold(&record[entry_part(index)]);
         }
         matrix
     }
 
     /// Takes the cells of a running entry.
     fn hold(&mut self, entry: &[u8]) {
-        let (column, bottom) = (usize::from(entry[2]), word(entry, 4) as i32);
-        let end = BLOCKS_AT + BLOCK_SIZE * usize::from(entry[3]);
-        let task = Task::read(&entry[BLOCKS_AT..end]);
+        let column = usize::from(entry[ENTRY_COLUMN_AT]);
+        let bottom = word(entry, ENTRY_BOTTOM_AT) as i32;
+        let end = BLOCKS_AT + BLOCK_SIZE * usize::from(entry[ENTRY_COUNT_AT]);
+        let task = Task::from_bytes(&entry[BLOCKS_AT..end]);
         for block in task.iter().flat_map(Task::blocks) {
             let (low, high) = (bottom + block.bottom(), bottom + block.top());
             self.free[column + block.column()][low as usize..high as usize].fill(false);
@@ -90,9 +89,9 @@ impl Matrix {
         (low - below.count(), high + above.count())
     }
 
-    /// n and s of a fitting position.
-    fn weigh(&self, task: &Task, column: usize, bottom: i32) -> (u32, u32) {
-        let (mut n, mut s) = (0, 0);
+    /// n and s of a fitting position: pieces and stretch.
+    fn score(&self, task: &Task, column: usize, bottom: i32) -> (u32, u32) {
+        let (mut pieces, mut stretch) = (0, 0);
         let mut previous = None;
         for block in task.blocks() {
             let here = column + block.column();
@@ -101,11 +100,11 @@ impl Matrix {
             let (start, end) = self.run(here, low, high);
             // The piece between two blocks of one run is the one above the lower block.
             let is_first = previous != Some((here, start));
-            n += u32::from(is_first && start < low) + u32::from(high < end);
-            s += (end - start) as u32;
+            pieces += u32::from(is_first && start < low) + u32::from(high < end);
+            stretch += (end - start) as u32;
             previous = Some((here, start));
         }
-        (n, s)
+        (pieces, stretch)
     }
 
     /// Every position at which the task fits, by column and then by bottom.
@@ -143,7 +142,7 @@ pub fn choose(record: &[u8], task: &[u8]) -> i32 {
 pub fn search_list(record: &Record, bytes: &[u8], output: &mut [u8]) -> Answer {
     let task = task(bytes)?;
     if output.len() < LIST_ROOM {
-        return Err(OUTPUT_SHORT);
+        return Err(refusal::OUTPUT_SHORT);
     }
     let step = step(&task);
     let mut count = 0;
@@ -153,15 +152,16 @@ pub fn search_list(record: &Record, bytes: &[u8], output: &mut [u8]) -> Answer {
         if previous != Some((column, bottom - step)) {
             let range = &mut output[RANGE_SIZE * count..RANGE_SIZE * (count + 1)];
             range[0] = column as u8;
-            range[1] = step as u8;
-            put_word(range, 2, bottom as u32);
+            range[RANGE_STEP_AT] = step as u8;
+            put_word(range, RANGE_FIRST_AT, bottom as u32);
             count += 1;
         }
-        put_word(output, RANGE_SIZE * count - 2, bottom as u32);
+        let last = RANGE_SIZE * (count - 1) + RANGE_LAST_AT;
+        put_word(output, last, bottom as u32);
         previous = Some((column, bottom));
     }
     match count {
-        0 => Err(NO_POSITION),
+        0 => Err(refusal::NO_POSITION),
         _ => Ok(count as i32),
     }
 }
@@ -172,10 +172,11 @@ pub fn search_choose(record: &Record, bytes: &[u8]) -> Answer {
     let matrix = Matrix::of(record);
     let mut best: Option<(i32, u32, u32)> = None;
     for (column, bottom) in matrix.positions(&task) {
-        let (n, s) = matrix.weigh(&task, column, bottom);
-        if best.is_none_or(|(_, least, sum)| n * sum < least * s) {
-            best = Some((COLUMN_WEIGHT * column as i32 + bottom, n, s));
+        let (pieces, stretch) = matrix.score(&task, column, bottom);
+        if best.is_none_or(|(_, least, over)| pieces * over < least * stretch) {
+            best = Some((COLUMN_WEIGHT * column as i32 + bottom, pieces, stretch));
         }
     }
-    best.map(|(answer, _, _)| answer).ok_or(NO_POSITION)
+    best.map(|(answer, _, _)| answer)
+        .ok_or(refusal::NO_POSITION)
 }

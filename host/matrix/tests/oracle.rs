@@ -2,7 +2,7 @@
 
 use oracle::arbitrary;
 use oracle::calls;
-use oracle::listing::OUTPUT_BYTES;
+use oracle::listing::LIST_ROOM;
 use oracle::record::record_of;
 use oracle::rng::Rng;
 
@@ -28,7 +28,7 @@ fn list_and_choose_are_the_oracles() {
         for _ in 0..5 {
             let most = rng.pick(&[1, 3, 8, 32]);
             let task = arbitrary::task(&mut rng, book.device(), most);
-            match compare(&record, task.bytes(), OUTPUT_BYTES) {
+            match compare(&record, task.bytes(), LIST_ROOM) {
                 0.. => some += 1,
                 _ => none += 1,
             }
@@ -50,7 +50,7 @@ fn refusals_are_the_oracles() {
             record.truncate(rng.below(record.len()));
         }
         let task = arbitrary::task_bytes(&mut rng, book.device(), 4);
-        let output_bytes = rng.pick(&[0, OUTPUT_BYTES - 1, OUTPUT_BYTES, OUTPUT_BYTES + 6]);
+        let output_bytes = rng.pick(&[0, LIST_ROOM - 1, LIST_ROOM, LIST_ROOM + 6]);
         compare(&record, &task, output_bytes);
     }
 }

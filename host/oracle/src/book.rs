@@ -8,7 +8,7 @@ use crate::cells::{intervals, CellSet, Interval};
 use crate::choice;
 use crate::device::Device;
 use crate::fit::{cells_of, fits, Position};
-use crate::listing::{ranges, Range, OUTPUT_BYTES, RANGE_BYTES};
+use crate::listing::{ranges, Range, LIST_ROOM, RANGE_SIZE};
 use crate::refusal::Refusal;
 use crate::task::Task;
 
@@ -127,14 +127,14 @@ impl Book {
     /// with −4, −5, −6 or −9. Bytes after the ranges stay.
     pub fn list(&self, task: &[u8], output: &mut [u8]) -> Result<usize, Refusal> {
         let task = Task::from_bytes(task)?;
-        if output.len() < OUTPUT_BYTES {
+        if output.len() < LIST_ROOM {
             return Err(Refusal::OutputShort);
         }
         let ranges = self.ranges(&task);
         if ranges.is_empty() {
             return Err(Refusal::NoPosition);
         }
-        for (part, range) in output.chunks_exact_mut(RANGE_BYTES).zip(&ranges) {
+        for (part, range) in output.chunks_exact_mut(RANGE_SIZE).zip(&ranges) {
             part.copy_from_slice(&range.to_bytes());
         }
         Ok(ranges.len())
@@ -143,7 +143,7 @@ impl Book {
     /// Choose: the position with least n / s, or refuses with −4, −5 or −9.
     pub fn choose(&self, task: &[u8]) -> Result<Position, Refusal> {
         let task = Task::from_bytes(task)?;
-        choice::choose(&self.device, &self.free_cells(), &task).ok_or(Refusal::NoPosition)
+        choice::chosen(&self.device, &self.free_cells(), &task).ok_or(Refusal::NoPosition)
     }
 
     /// The number as a task number that may be entered now.

@@ -4,7 +4,7 @@
 //! writes only once nothing more can be refused.
 
 use crate::book::Book;
-use crate::layout::{column_part, COUNTS, INTERVAL_BYTES, RECORD_BYTES};
+use crate::layout::{column_part, COUNTS_AT, INTERVAL_SIZE, RECORD_SIZE};
 use crate::record::record_of;
 use crate::refusal::Refusal;
 use crate::sound;
@@ -21,7 +21,7 @@ pub fn book_of(record: &[u8]) -> Result<Book, Refusal> {
 
 /// New: writes the record with all cells free. Answers 0, −1 or −3.
 pub fn new(record: &mut [u8], rows: u32, kinds: &[u8]) -> i32 {
-    if record.len() != RECORD_BYTES {
+    if record.len() != RECORD_SIZE {
         return Refusal::RecordLength.number();
     }
     let made = Book::new(rows, kinds);
@@ -64,9 +64,9 @@ pub fn interval_count(record: &[u8], column: u32) -> i32 {
 }
 
 /// The view: a column's intervals as a part of the record, empty where interval count refuses.
-pub fn intervals(record: &[u8], column: u32) -> &[u8] {
+pub fn view(record: &[u8], column: u32) -> &[u8] {
     match count(record, column) {
-        Ok(count) => &record[column_part(column as usize)][..INTERVAL_BYTES * count],
+        Ok(count) => &record[column_part(column as usize)][..INTERVAL_SIZE * count],
         Err(_) => &[],
     }
 }
@@ -78,7 +78,7 @@ fn count(record: &[u8], column: u32) -> Result<usize, Refusal> {
     if column >= book.device().columns() {
         return Err(Refusal::DeviceOrColumn);
     }
-    Ok(usize::from(record[COUNTS + column]))
+    Ok(usize::from(record[COUNTS_AT + column]))
 }
 
 /// Overwrites a record of the right length with the book's, and answers 0.

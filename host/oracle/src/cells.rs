@@ -7,17 +7,17 @@ pub const MAX_CELLS: usize = 128;
 
 /// A set of cells, each named by its column and its place in the column.
 ///
-/// One word for each column, one bit for each cell.
+/// For each column one number, with a bit for each cell.
 #[derive(Clone, Debug, PartialEq, Eq)]
 pub struct CellSet {
-    words: [u128; MAX_COLUMNS],
+    columns: [u128; MAX_COLUMNS],
 }
 
 impl CellSet {
     /// The set without cells.
     pub fn empty() -> CellSet {
         CellSet {
-            words: [0; MAX_COLUMNS],
+            columns: [0; MAX_COLUMNS],
         }
     }
 
@@ -34,8 +34,8 @@ impl CellSet {
 
     /// Whether the cell is in the set; a cell that no device has never is.
     pub fn contains(&self, column: usize, cell: usize) -> bool {
-        let word = self.words.get(column).copied().unwrap_or(0);
-        cell < MAX_CELLS && word >> cell & 1 == 1
+        let cells = self.columns.get(column).copied().unwrap_or(0);
+        cell < MAX_CELLS && cells >> cell & 1 == 1
     }
 
     /// Adds a cell; answers whether it was not there before.
@@ -45,22 +45,22 @@ impl CellSet {
     pub fn insert(&mut self, column: usize, cell: usize) -> bool {
         assert!(cell < MAX_CELLS, "no device has such a cell");
         let is_new = !self.contains(column, cell);
-        self.words[column] |= 1 << cell;
+        self.columns[column] |= 1 << cell;
         is_new
     }
 
     /// Takes a cell out; nothing happens when it is not there.
     pub fn remove(&mut self, column: usize, cell: usize) {
         if self.contains(column, cell) {
-            self.words[column] &= !(1 << cell);
+            self.columns[column] &= !(1 << cell);
         }
     }
 
     /// How many cells are in the set.
     pub fn len(&self) -> usize {
-        self.words
+        self.columns
             .iter()
-            .map(|word| word.count_ones() as usize)
+            .map(|cells| cells.count_ones() as usize)
             .sum()
     }
 

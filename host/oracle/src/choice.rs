@@ -5,28 +5,28 @@ use crate::device::Device;
 use crate::fit::{cells_of, fits, fitting_positions, moved, moved_column, Position};
 use crate::task::Task;
 
-/// What a position costs: n over s.
+/// What a position costs: n over s, here pieces over stretch.
 #[derive(Clone, Copy, Debug, PartialEq, Eq, Hash)]
-pub struct Weight {
-    /// The free intervals that remain, after placing, inside intervals that held a block.
-    pub n: i64,
-    /// The sum, over the blocks, of the height of the free interval that holds the block.
-    pub s: i64,
+pub struct Score {
+    /// n: the free intervals that remain, after placing, inside intervals that held a block.
+    pub pieces: i64,
+    /// s: the sum, over the blocks, of the height of the free interval that holds the block.
+    pub stretch: i64,
 }
 
-impl Weight {
+impl Score {
     /// Whether n / s is less here than there, by cross-products.
-    pub fn is_less_than(self, other: Weight) -> bool {
-        self.n * other.s < other.n * self.s
+    pub fn is_less_than(self, other: Score) -> bool {
+        self.pieces * other.stretch < other.pieces * self.stretch
     }
 }
 
-/// The weight of a position; none where the task does not fit.
-pub fn weigh(device: &Device, free: &CellSet, task: &Task, at: Position) -> Option<Weight> {
+/// The score of a position; none where the task does not fit.
+pub fn score(device: &Device, free: &CellSet, task: &Task, at: Position) -> Option<Score> {
     if !fits(device, free, task, at) {
         return None;
     }
-    let mut s = 0;
+    let mut stretch = 0;
     // The intervals that hold a block, each once: two blocks may share one.
     let mut holders: Vec<(usize, Interval)> = Vec::new();
     for block in task.blocks() {
@@ -34,7 +34,7 @@ pub fn weigh(device: &Device, free: &CellSet, task: &Task, at: Position) -> Opti
         let holder = intervals(device, free, column)
             .into_iter()
             .find(|interval| interval.holds(moved(block, at)))?;
-        s += holder.height();
+        stretch += holder.height();
         if !holders.contains(&(column, holder)) {
             holders.push((column, holder));
         }
@@ -43,12 +43,12 @@ pub fn weigh(device: &Device, free: &CellSet, task: &Task, at: Position) -> Opti
     for (column, cell) in cells_of(device, task, at)? {
         free_after.remove(column, cell);
     }
-    let n = count_remaining(device, &free_after, &holders);
-    Some(Weight { n, s })
+    let pieces = pieces(device, &free_after, &holders);
+    Some(Score { pieces, stretch })
 }
 
 /// How many free intervals lie inside the given ones.
-fn count_remaining(device: &Device, free: &CellSet, holders: &[(usize, Interval)]) -> i64 {
+fn pieces(device: &Device, free: &CellSet, holders: &[(usize, Interval)]) -> i64 {
     let mut count = 0;
     for &(column, holder) in holders {
         let inside = intervals(device, free, column)
@@ -60,15 +60,15 @@ fn count_remaining(device: &Device, free: &CellSet, holders: &[(usize, Interval)
 }
 
 /// The chosen position, or none when no position fits.
-pub fn choose(device: &Device, free: &CellSet, task: &Task) -> Option<Position> {
-    let mut best: Option<(Position, Weight)> = None;
-    // Positions come by column and then by bottom, so only a lesser weight
+pub fn chosen(device: &Device, free: &CellSet, task: &Task) -> Option<Position> {
+    let mut best: Option<(Position, Score)> = None;
+    // Positions come by column and then by bottom, so only a lesser score
     // displaces an earlier one: that is how ties are to be broken.
     for at in fitting_positions(device, free, task) {
-        let weight = weigh(device, free, task, at)?;
-        let is_better = best.is_none_or(|(_, least)| weight.is_less_than(least));
+        let score = score(device, free, task, at)?;
+        let is_better = best.is_none_or(|(_, least)| score.is_less_than(least));
         if is_better {
-            best = Some((at, weight));
+            best = Some((at, score));
         }
     }
     best.map(|(at, _)| at)

@@ -123,7 +123,7 @@ impl Device {
     }
 
     /// The half row at which a column's last cell ends; what lies above is no cell.
-    pub fn top_of_last_cell(&self, column: usize) -> i64 {
+    pub fn top(&self, column: usize) -> i64 {
         self.kind(column)
             .map_or(0, |kind| kind.height() * kind.cells(self.rows) as i64)
     }

@@ -6,6 +6,9 @@ use crate::cells::{CellSet, Interval};
 use crate::device::Device;
 use crate::task::{Block, Task};
 
+/// What choose multiplies a column by in its answer.
+pub const COLUMN_WEIGHT: i32 = 1024;
+
 /// A position: where the first block's column and bottom come to stand.
 #[derive(Clone, Copy, Debug, PartialEq, Eq, Hash, PartialOrd, Ord)]
 pub struct Position {
@@ -16,11 +19,19 @@ pub struct Position {
 }
 
 impl Position {
-    /// The number that choose answers: column × 1,024 + bottom.
+    /// The number with which choose answers it: column × 1,024 + bottom.
     pub fn answer(self) -> i32 {
         // Nothing wraps for positions on a device, and choose answers no others.
         let column = self.column as i32;
-        column.wrapping_mul(1024).wrapping_add(self.bottom)
+        column.wrapping_mul(COLUMN_WEIGHT).wrapping_add(self.bottom)
+    }
+
+    /// The position that choose answers with a number.
+    pub fn of_answer(answer: i32) -> Position {
+        Position {
+            column: (answer / COLUMN_WEIGHT) as u32,
+            bottom: answer % COLUMN_WEIGHT,
+        }
     }
 }
 
@@ -44,18 +55,18 @@ pub fn moved_column(device: &Device, block: &Block, at: Position) -> Option<usiz
 ///
 /// None unless the block stands in a device column of its kind, starts at a
 /// multiple of its height, not below 0, and ends at or below the last cell's top.
-pub fn covered(device: &Device, block: &Block, at: Position) -> Option<(usize, Range<usize>)> {
+pub fn block_cells(device: &Device, block: &Block, at: Position) -> Option<(usize, Range<usize>)> {
     let column = moved_column(device, block, at)?;
     if device.kind(column) != Some(block.kind) {
         return None;
     }
     let height = block.kind.height();
-    let span = moved(block, at);
-    let starts_well = span.bottom >= 0 && span.bottom % height == 0;
-    if !starts_well || span.top > device.top_of_last_cell(column) {
+    let moved = moved(block, at);
+    let starts_well = moved.bottom >= 0 && moved.bottom % height == 0;
+    if !starts_well || moved.top > device.top(column) {
         return None;
     }
-    let cells = (span.bottom / height) as usize..(span.top / height) as usize;
+    let cells = (moved.bottom / height) as usize..(moved.top / height) as usize;
     Some((column, cells))
 }
 
@@ -63,7 +74,7 @@ pub fn covered(device: &Device, block: &Block, at: Position) -> Option<(usize, R
 pub fn cells_of(device: &Device, task: &Task, at: Position) -> Option<Vec<(usize, usize)>> {
     let mut all = Vec::new();
     for block in task.blocks() {
-        let (column, cells) = covered(device, block, at)?;
+        let (column, cells) = block_cells(device, block, at)?;
         all.extend(cells.map(|cell| (column, cell)));
     }
     Some(all)
@@ -72,7 +83,7 @@ pub fn cells_of(device: &Device, task: &Task, at: Position) -> Option<Vec<(usize
 /// Whether the task fits at the position, given the free cells.
 pub fn fits(device: &Device, free: &CellSet, task: &Task, at: Position) -> bool {
     task.blocks().iter().all(|block| {
-        let Some((column, mut cells)) = covered(device, block, at) else {
+        let Some((column, mut cells)) = block_cells(device, block, at) else {
             return false;
         };
         cells.all(|cell| free.contains(column, cell))

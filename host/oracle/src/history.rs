@@ -57,6 +57,16 @@ impl Outcome {
 }
 
 impl Call {
+    /// The bytes of the task that the call asks for or places; none for a release.
+    pub fn task(&self) -> Option<&[u8]> {
+        match self {
+            Call::List { task, .. } | Call::Choose { task } | Call::Place { task, .. } => {
+                Some(task)
+            }
+            Call::Release { .. } => None,
+        }
+    }
+
     /// The output that the call is lent, as it is before the call.
     pub fn lent_output(&self) -> Vec<u8> {
         match self {

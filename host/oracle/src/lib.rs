@@ -15,14 +15,14 @@
 //! - [`rng`], [`arbitrary`]: random cards for comparisons.
 //!
 //! ```
-//! use oracle::{calls, layout::RECORD_BYTES};
+//! use oracle::{calls, layout::RECORD_SIZE};
 //!
-//! let mut record = vec![0; RECORD_BYTES];
+//! let mut record = vec![0; RECORD_SIZE];
 //! assert_eq!(calls::new(&mut record, 5, &[0]), 0);
 //! // One logic block of one cell, placed at half row 4 of column 0.
 //! let task = [0, 0, 0, 0, 2, 0];
 //! assert_eq!(calls::place(&mut record, &task, 7, 0, 4), 0);
-//! assert_eq!(calls::intervals(&record, 0), [0, 0, 4, 0, 6, 0, 10, 0]);
+//! assert_eq!(calls::view(&record, 0), [0, 0, 4, 0, 6, 0, 10, 0]);
 //! ```
 
 #![deny(missing_docs)]

@@ -6,12 +6,12 @@ use crate::device::Kind;
 use crate::refusal::Refusal;
 use crate::task::Block;
 
-/// The names line before the device.
-pub const DEVICE_NAMES: &[u8] = b"rows kinds";
-/// The names line before the calls.
-pub const CALL_NAMES: &[u8] = b"call task column kind bottom top";
+/// The first line: the names before the device.
+pub const FIRST_NAMES: &[u8] = b"rows kinds";
+/// The third line: the names before the calls.
+pub const SECOND_NAMES: &[u8] = b"call task column kind bottom top";
 /// The most bytes of a line, without its newline.
-pub const LINE_BYTES: usize = 80;
+pub const MAX_LINE: usize = 80;
 
 /// A device line: what new is called with.
 #[derive(Clone, Debug, PartialEq, Eq)]
@@ -24,36 +24,36 @@ pub struct DeviceLine {
 
 /// One of the six calls of a sheet.
 #[derive(Clone, Copy, Debug, PartialEq, Eq)]
-pub enum LineCall {
+pub enum SheetCall {
     /// B: adds a block to the draft.
-    Block(Block),
+    AddBlock(Block),
     /// N: empties the draft.
-    Empty,
+    EmptyDraft,
     /// L: lists the draft.
-    List,
+    ListDraft,
     /// C: chooses a position for the draft.
-    Choose,
+    ChooseDraft,
     /// P: places the draft.
-    Place {
+    PlaceDraft {
         /// The task number, 0 to 65,535.
-        number: u16,
+        task: u16,
         /// The column, 0 to 255.
         column: u8,
         /// The bottom.
         bottom: i16,
     },
     /// R: releases a task.
-    Release {
+    ReleaseTask {
         /// The task number, 0 to 65,535.
-        number: u16,
+        task: u16,
     },
 }
 
 /// The line that the reader reads as this call.
-impl fmt::Display for LineCall {
+impl fmt::Display for SheetCall {
     fn fmt(&self, f: &mut fmt::Formatter<'_>) -> fmt::Result {
         match self {
-            LineCall::Block(block) => write!(
+            SheetCall::AddBlock(block) => write!(
                 f,
                 "B 0 {} {} {} {}",
                 block.column,
@@ -61,15 +61,15 @@ impl fmt::Display for LineCall {
                 block.bottom,
                 block.top
             ),
-            LineCall::Empty => f.write_str("N 0 0 - 0 0"),
-            LineCall::List => f.write_str("L 0 0 - 0 0"),
-            LineCall::Choose => f.write_str("C 0 0 - 0 0"),
-            LineCall::Place {
-                number,
+            SheetCall::EmptyDraft => f.write_str("N 0 0 - 0 0"),
+            SheetCall::ListDraft => f.write_str("L 0 0 - 0 0"),
+            SheetCall::ChooseDraft => f.write_str("C 0 0 - 0 0"),
+            SheetCall::PlaceDraft {
+                task,
                 column,
                 bottom,
-            } => write!(f, "P {number} {column} - {bottom} 0"),
-            LineCall::Release { number } => write!(f, "R {number} 0 - 0 0"),
+            } => write!(f, "P {task} {column} - {bottom} 0"),
+            SheetCall::ReleaseTask { task } => write!(f, "R {task} 0 - 0 0"),
         }
     }
 }
@@ -94,7 +94,7 @@ pub fn read_names(line: &[u8], names: &[u8]) -> Result<(), Refusal> {
 }
 
 /// Reads a device line: rows and kind letters, or −12.
-pub fn read_device(line: &[u8]) -> Result<DeviceLine, Refusal> {
+pub fn device_line(line: &[u8]) -> Result<DeviceLine, Refusal> {
     let fields = fields(line)?;
     let [rows, letters] = fields[..] else {
         return Err(Refusal::MalformedLine);
@@ -110,7 +110,7 @@ pub fn read_device(line: &[u8]) -> Result<DeviceLine, Refusal> {
 }
 
 /// Reads a call line: one of the six calls, or −12.
-pub fn read_call(line: &[u8]) -> Result<LineCall, Refusal> {
+pub fn sheet_line(line: &[u8]) -> Result<SheetCall, Refusal> {
     let fields = fields(line)?;
     let [call, task, column, kind_field, bottom, top] = fields[..] else {
         return Err(Refusal::MalformedLine);
@@ -118,22 +118,22 @@ pub fn read_call(line: &[u8]) -> Result<LineCall, Refusal> {
     let unused = |parts: &[&[u8]]| parts.iter().all(|&part| part == b"0");
     let no_kind = kind_field == b"-";
     match call {
-        b"B" if unused(&[task]) => Ok(LineCall::Block(Block {
+        b"B" if unused(&[task]) => Ok(SheetCall::AddBlock(Block {
             column: number(column)?,
             kind: kind(kind_field)?,
             bottom: number(bottom)?,
             top: number(top)?,
         })),
-        b"N" if no_kind && unused(&[task, column, bottom, top]) => Ok(LineCall::Empty),
-        b"L" if no_kind && unused(&[task, column, bottom, top]) => Ok(LineCall::List),
-        b"C" if no_kind && unused(&[task, column, bottom, top]) => Ok(LineCall::Choose),
-        b"P" if no_kind && unused(&[top]) => Ok(LineCall::Place {
-            number: number(task)?,
+        b"N" if no_kind && unused(&[task, column, bottom, top]) => Ok(SheetCall::EmptyDraft),
+        b"L" if no_kind && unused(&[task, column, bottom, top]) => Ok(SheetCall::ListDraft),
+        b"C" if no_kind && unused(&[task, column, bottom, top]) => Ok(SheetCall::ChooseDraft),
+        b"P" if no_kind && unused(&[top]) => Ok(SheetCall::PlaceDraft {
+            task: number(task)?,
             column: number(column)?,
             bottom: number(bottom)?,
         }),
-        b"R" if no_kind && unused(&[column, bottom, top]) => Ok(LineCall::Release {
-            number: number(task)?,
+        b"R" if no_kind && unused(&[column, bottom, top]) => Ok(SheetCall::ReleaseTask {
+            task: number(task)?,
         }),
         _ => Err(Refusal::MalformedLine),
     }
@@ -141,7 +141,7 @@ pub fn read_call(line: &[u8]) -> Result<LineCall, Refusal> {
 
 /// The fields of a line that is not too long, parted by one space.
 fn fields(line: &[u8]) -> Result<Vec<&[u8]>, Refusal> {
-    if line.len() > LINE_BYTES {
+    if line.len() > MAX_LINE {
         return Err(Refusal::MalformedLine);
     }
     Ok(line.split(|&byte| byte == b' ').collect())

@@ -6,9 +6,9 @@ use crate::fit::{fits, Position};
 use crate::task::Task;
 
 /// The bytes of one range.
-pub const RANGE_BYTES: usize = 6;
+pub const RANGE_SIZE: usize = 6;
 /// The least output that list takes.
-pub const OUTPUT_BYTES: usize = 24_576;
+pub const LIST_ROOM: usize = 24_576;
 
 /// A range: the positions in its column from first to last, one step apart.
 #[derive(Clone, Copy, Debug, PartialEq, Eq, Hash)]
@@ -25,7 +25,7 @@ pub struct Range {
 
 impl Range {
     /// The range's six bytes: column, step, first and last.
-    pub fn to_bytes(self) -> [u8; RANGE_BYTES] {
+    pub fn to_bytes(self) -> [u8; RANGE_SIZE] {
         let first = (self.first as u16).to_le_bytes();
         let last = (self.last as u16).to_le_bytes();
         let column = self.column as u8;
@@ -34,7 +34,7 @@ impl Range {
     }
 
     /// Reads a range's six bytes.
-    pub fn from_bytes(bytes: [u8; RANGE_BYTES]) -> Range {
+    pub fn from_bytes(bytes: [u8; RANGE_SIZE]) -> Range {
         Range {
             column: u32::from(bytes[0]),
             step: i32::from(bytes[1]),
@@ -56,7 +56,7 @@ impl Range {
 /// The ranges in the first bytes of a listing's output.
 pub fn read_ranges(output: &[u8], count: usize) -> Vec<Range> {
     output
-        .chunks_exact(RANGE_BYTES)
+        .chunks_exact(RANGE_SIZE)
         .take(count)
         .map(|b| Range::from_bytes([b[0], b[1], b[2], b[3], b[4], b[5]]))
         .collect()

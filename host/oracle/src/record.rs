@@ -7,7 +7,7 @@ use crate::layout::*;
 
 /// The bytes of the book's record.
 pub fn record_of(book: &Book) -> Vec<u8> {
-    let mut record = vec![0; RECORD_BYTES];
+    let mut record = vec![0; RECORD_SIZE];
     write_device(book, &mut record);
     write_intervals(book, &mut record);
     for (index, (&number, entry)) in book.running().iter().enumerate() {
@@ -19,10 +19,10 @@ pub fn record_of(book: &Book) -> Vec<u8> {
 /// Rows, columns, running tasks and kinds.
 fn write_device(book: &Book, record: &mut [u8]) {
     let device = book.device();
-    put_two_bytes(record, ROWS, device.rows() as u16);
-    record[COLUMNS] = device.columns() as u8;
-    record[RUNNING] = book.running().len() as u8;
-    record[KINDS..KINDS + device.columns()].copy_from_slice(&device.kind_bytes());
+    put_word(record, ROWS_AT, device.rows() as u16);
+    record[COLUMNS_AT] = device.columns() as u8;
+    record[RUNNING_AT] = book.running().len() as u8;
+    record[KINDS_AT..KINDS_AT + device.columns()].copy_from_slice(&device.kind_bytes());
 }
 
 /// Each column's interval count and its intervals, upwards.
@@ -31,9 +31,9 @@ fn write_intervals(book: &Book, record: &mut [u8]) {
     let free = book.free_cells();
     for column in 0..device.columns() {
         let runs = intervals(device, &free, column);
-        record[COUNTS + column] = runs.len() as u8;
+        record[COUNTS_AT + column] = runs.len() as u8;
         let part = &mut record[column_part(column)];
-        for (place, run) in part.chunks_exact_mut(INTERVAL_BYTES).zip(runs) {
+        for (place, run) in part.chunks_exact_mut(INTERVAL_SIZE).zip(runs) {
             place.copy_from_slice(&run.to_bytes());
         }
     }
@@ -42,9 +42,9 @@ fn write_intervals(book: &Book, record: &mut [u8]) {
 /// One running entry.
 fn write_entry(number: u16, running: &Running, entry: &mut [u8]) {
     let task = &running.task;
-    put_two_bytes(entry, ENTRY_NUMBER, number);
-    entry[ENTRY_COLUMN] = running.position.column as u8;
-    entry[ENTRY_BLOCK_COUNT] = task.blocks().len() as u8;
-    put_two_bytes(entry, ENTRY_BOTTOM, running.position.bottom as u16);
-    entry[ENTRY_BLOCKS..ENTRY_BLOCKS + task.bytes().len()].copy_from_slice(task.bytes());
+    put_word(entry, ENTRY_NUMBER_AT, number);
+    entry[ENTRY_COLUMN_AT] = running.position.column as u8;
+    entry[ENTRY_COUNT_AT] = task.blocks().len() as u8;
+    put_word(entry, ENTRY_BOTTOM_AT, running.position.bottom as u16);
+    entry[BLOCKS_AT..BLOCKS_AT + task.bytes().len()].copy_from_slice(task.bytes());
 }

@@ -14,7 +14,7 @@ use crate::device::{Device, MAX_COLUMNS, MAX_ROWS};
 use crate::fit::{cells_of, Position};
 use crate::layout::*;
 use crate::refusal::Refusal;
-use crate::task::{Task, BLOCK_BYTES, MAX_BLOCKS};
+use crate::task::{Task, BLOCK_SIZE, MAX_BLOCKS};
 
 /// The first sentence found that does not hold of a record.
 #[derive(Clone, Copy, Debug, PartialEq, Eq, Hash)]
@@ -69,7 +69,7 @@ impl From<Unsound> for Refusal {
 
 /// Judges the bytes and reads a sound record's device and book.
 pub fn read(record: &[u8]) -> Result<Book, Unsound> {
-    if record.len() != RECORD_BYTES {
+    if record.len() != RECORD_SIZE {
         return Err(Unsound::Length);
     }
     let device = read_device(record)?;
@@ -90,23 +90,23 @@ pub fn is_sound(record: &[u8]) -> bool {
 
 /// Rows, columns and kinds in their limits.
 fn read_device(record: &[u8]) -> Result<Device, Unsound> {
-    let rows = u32::from(two_bytes(record, ROWS));
+    let rows = u32::from(word(record, ROWS_AT));
     if !(1..=MAX_ROWS).contains(&rows) {
         return Err(Unsound::Rows);
     }
-    let columns = usize::from(record[COLUMNS]);
+    let columns = usize::from(record[COLUMNS_AT]);
     if !(1..=MAX_COLUMNS).contains(&columns) {
         return Err(Unsound::Columns);
     }
-    Device::new(rows, &record[KINDS..KINDS + columns]).map_err(|_| Unsound::Kind)
+    Device::new(rows, &record[KINDS_AT..KINDS_AT + columns]).map_err(|_| Unsound::Kind)
 }
 
 /// Counts of running tasks and of intervals in their limits.
 fn check_counts(record: &[u8]) -> Result<(), Unsound> {
-    if usize::from(record[RUNNING]) > MAX_RUNNING {
+    if usize::from(record[RUNNING_AT]) > MAX_RUNNING {
         return Err(Unsound::RunningCount);
     }
-    let counts = &record[COUNTS..COUNTS + MAX_COLUMNS];
+    let counts = &record[COUNTS_AT..COUNTS_AT + MAX_COLUMNS];
     if counts.iter().any(|&n| usize::from(n) > MAX_INTERVALS) {
         return Err(Unsound::IntervalCount);
     }
@@ -117,9 +117,9 @@ fn check_counts(record: &[u8]) -> Result<(), Unsound> {
 fn read_running(record: &[u8]) -> Result<BTreeMap<u16, Running>, Unsound> {
     let mut running = BTreeMap::new();
     let mut previous = None;
-    for index in 0..usize::from(record[RUNNING]) {
+    for index in 0..usize::from(record[RUNNING_AT]) {
         let entry = &record[entry_part(index)];
-        let number = two_bytes(entry, ENTRY_NUMBER);
+        let number = word(entry, ENTRY_NUMBER_AT);
         if number == 0 {
             return Err(Unsound::NumberZero);
         }
@@ -134,15 +134,15 @@ fn read_running(record: &[u8]) -> Result<BTreeMap<u16, Running>, Unsound> {
 
 /// One entry's task and position.
 fn read_entry(entry: &[u8]) -> Result<Running, Unsound> {
-    let blocks = usize::from(entry[ENTRY_BLOCK_COUNT]);
+    let blocks = usize::from(entry[ENTRY_COUNT_AT]);
     if !(1..=MAX_BLOCKS).contains(&blocks) {
         return Err(Unsound::BlockCount);
     }
-    let bytes = &entry[ENTRY_BLOCKS..ENTRY_BLOCKS + BLOCK_BYTES * blocks];
+    let bytes = &entry[BLOCKS_AT..BLOCKS_AT + BLOCK_SIZE * blocks];
     let task = Task::from_bytes(bytes).map_err(|_| Unsound::NotWellFormed)?;
     let position = Position {
-        column: u32::from(entry[ENTRY_COLUMN]),
-        bottom: i32::from(two_bytes(entry, ENTRY_BOTTOM)),
+        column: u32::from(entry[ENTRY_COLUMN_AT]),
+        bottom: i32::from(word(entry, ENTRY_BOTTOM_AT)),
     };
     Ok(Running { task, position })
 }
@@ -170,13 +170,13 @@ fn check_intervals(
     column: usize,
     record: &[u8],
 ) -> Result<(), Unsound> {
-    let count = usize::from(record[COUNTS + column]);
+    let count = usize::from(record[COUNTS_AT + column]);
     let part = &record[column_part(column)];
     let mut listed = CellSet::empty();
     let mut previous_top = None;
-    for interval in part.chunks_exact(INTERVAL_BYTES).take(count) {
-        let bottom = i64::from(two_bytes(interval, 0));
-        let top = i64::from(two_bytes(interval, 2));
+    for interval in part.chunks_exact(INTERVAL_SIZE).take(count) {
+        let bottom = i64::from(word(interval, 0));
+        let top = i64::from(word(interval, INTERVAL_TOP_AT));
         if previous_top.is_some_and(|previous| bottom < previous) {
             return Err(Unsound::Intervals);
         }
@@ -206,7 +206,7 @@ fn maximal_free_run(
 ) -> Option<Range<usize>> {
     let height = device.kind(column)?.height();
     let are_cells = bottom % height == 0 && top % height == 0;
-    if !are_cells || bottom >= top || top > device.top_of_last_cell(column) {
+    if !are_cells || bottom >= top || top > device.top(column) {
         return None;
     }
     let cells = (bottom / height) as usize..(top / height) as usize;
@@ -221,17 +221,17 @@ fn maximal_free_run(
 fn check_unused(device: &Device, running: usize, record: &[u8]) -> Result<(), Unsound> {
     let is_zero = |part: &[u8]| part.iter().all(|&byte| byte == 0);
     let columns = device.columns();
-    let mut good = is_zero(&record[KINDS + columns..COUNTS]);
-    good &= is_zero(&record[COUNTS + columns..INTERVALS]);
+    let mut good = is_zero(&record[KINDS_AT + columns..COUNTS_AT]);
+    good &= is_zero(&record[COUNTS_AT + columns..INTERVALS_AT]);
     for column in 0..MAX_COLUMNS {
         // The count of a column that the device has not is 0, or unused bytes are not.
-        let used = INTERVAL_BYTES * usize::from(record[COUNTS + column]);
+        let used = INTERVAL_SIZE * usize::from(record[COUNTS_AT + column]);
         good &= is_zero(&record[column_part(column)][used..]);
     }
     for index in 0..MAX_RUNNING {
         let entry = &record[entry_part(index)];
-        let blocks = usize::from(entry[ENTRY_BLOCK_COUNT]);
-        let used = ENTRY_BLOCKS + BLOCK_BYTES * blocks;
+        let blocks = usize::from(entry[ENTRY_COUNT_AT]);
+        let used = BLOCKS_AT + BLOCK_SIZE * blocks;
         let used = if index < running { used } else { 0 };
         good &= is_zero(&entry[used..]);
     }

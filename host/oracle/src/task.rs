@@ -1,12 +1,14 @@
 //! Tasks: blocks, how they are read from bytes, and when a task is well-formed.
 
-use crate::device::Kind;
+use crate::device::{Kind, MAX_COLUMNS};
 use crate::refusal::Refusal;
 
 /// The bytes of one block.
-pub const BLOCK_BYTES: usize = 6;
+pub const BLOCK_SIZE: usize = 6;
 /// The most blocks that a task has.
 pub const MAX_BLOCKS: usize = 32;
+/// How far a block's bottom and top are from 0 at most.
+pub const REACH: i64 = 256;
 
 /// A block; bottom and top are relative to the first block's bottom.
 #[derive(Clone, Copy, Debug, PartialEq, Eq, Hash)]
@@ -23,7 +25,7 @@ pub struct Block {
 
 impl Block {
     /// Reads six bytes; there is no block where the kind byte names no kind.
-    pub fn from_bytes(bytes: [u8; BLOCK_BYTES]) -> Option<Block> {
+    pub fn from_bytes(bytes: [u8; BLOCK_SIZE]) -> Option<Block> {
         Some(Block {
             column: bytes[0],
             kind: Kind::from_byte(bytes[1])?,
@@ -33,7 +35,7 @@ impl Block {
     }
 
     /// The block's six bytes.
-    pub fn to_bytes(self) -> [u8; BLOCK_BYTES] {
+    pub fn to_bytes(self) -> [u8; BLOCK_SIZE] {
         let bottom = self.bottom.to_le_bytes();
         let top = self.top.to_le_bytes();
         [
@@ -44,28 +46,6 @@ impl Block {
             top[0],
             top[1],
         ]
-    }
-
-    /// The sentences of well-formedness that speak of one block alone.
-    fn is_well_formed(&self) -> bool {
-        let bottom = i64::from(self.bottom);
-        let top = i64::from(self.top);
-        let size = top - bottom;
-        self.column <= 63
-            && bottom >= -256
-            && top <= 256
-            && size > 0
-            && size % self.kind.height() == 0
-    }
-
-    /// The sentences of well-formedness that speak of two blocks in a row.
-    fn may_follow(&self, previous: &Block) -> bool {
-        if self.column != previous.column {
-            // Columns never fall; one between the two may have no block.
-            return self.column > previous.column;
-        }
-        // Touching blocks would be one block, so a gap is asked for.
-        self.kind == previous.kind && self.bottom > previous.top
     }
 }
 
@@ -79,8 +59,8 @@ pub struct Task {
 impl Task {
     /// Reads a task, or refuses with −4 (its length) or −5 (not well-formed).
     pub fn from_bytes(bytes: &[u8]) -> Result<Task, Refusal> {
-        let too_long = bytes.len() > MAX_BLOCKS * BLOCK_BYTES;
-        if bytes.is_empty() || too_long || !bytes.len().is_multiple_of(BLOCK_BYTES) {
+        let too_long = bytes.len() > MAX_BLOCKS * BLOCK_SIZE;
+        if bytes.is_empty() || too_long || !bytes.len().is_multiple_of(BLOCK_SIZE) {
             return Err(Refusal::TaskLength);
         }
         let blocks = read_blocks(bytes).ok_or(Refusal::TaskNotWellFormed)?;
@@ -128,9 +108,31 @@ pub fn bytes_of(blocks: &[Block]) -> Vec<u8> {
 /// Reads whole blocks; none where a kind byte is above 2.
 fn read_blocks(bytes: &[u8]) -> Option<Vec<Block>> {
     bytes
-        .chunks_exact(BLOCK_BYTES)
+        .chunks_exact(BLOCK_SIZE)
         .map(|b| Block::from_bytes([b[0], b[1], b[2], b[3], b[4], b[5]]))
         .collect()
+}
+
+/// The sentences of well-formedness that speak of one block alone.
+fn block_ok(block: &Block) -> bool {
+    let bottom = i64::from(block.bottom);
+    let top = i64::from(block.top);
+    let size = top - bottom;
+    usize::from(block.column) < MAX_COLUMNS
+        && bottom >= -REACH
+        && top <= REACH
+        && size > 0
+        && size % block.kind.height() == 0
+}
+
+/// The sentences of well-formedness that speak of two blocks in a row.
+fn follows(previous: &Block, block: &Block) -> bool {
+    if block.column != previous.column {
+        // Columns never fall; one between the two may have no block.
+        return block.column > previous.column;
+    }
+    // Touching blocks would be one block, so a gap is asked for.
+    block.kind == previous.kind && block.bottom > previous.top
 }
 
 /// Well-formedness, sentence by sentence.
@@ -139,6 +141,6 @@ fn is_well_formed(blocks: &[Block]) -> bool {
         .first()
         .is_some_and(|first| first.column == 0 && first.bottom == 0);
     first_is_good
-        && blocks.iter().all(Block::is_well_formed)
-        && blocks.windows(2).all(|pair| pair[1].may_follow(&pair[0]))
+        && blocks.iter().all(block_ok)
+        && blocks.windows(2).all(|pair| follows(&pair[0], &pair[1]))
 }

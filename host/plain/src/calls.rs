@@ -3,21 +3,32 @@
 use crate::choice;
 use crate::layout::*;
 use crate::listing::Search;
-use crate::record::{self, Place};
+use crate::record::{self, Entry};
 use crate::task::{is_sized, Task};
 
 /// The numbers of document 01's table.
-mod refusal {
+pub mod refusal {
+    /// The record is not 29,188 bytes.
     pub const RECORD_LENGTH: i32 = -1;
+    /// The record is not sound.
     pub const RECORD_NOT_SOUND: i32 = -2;
+    /// The device is out of its limits, or there is no such column.
     pub const DEVICE_OR_COLUMN: i32 = -3;
+    /// The task bytes are 0, over 192, or no multiple of 6.
     pub const TASK_LENGTH: i32 = -4;
+    /// The task is not well-formed.
     pub const TASK_NOT_WELL_FORMED: i32 = -5;
+    /// The output is under 24,576 bytes.
     pub const OUTPUT_SHORT: i32 = -6;
+    /// The number is 0, over 65,535 or running.
     pub const BAD_NUMBER: i32 = -7;
+    /// 64 tasks run.
     pub const FULL: i32 = -8;
+    /// No position fits.
     pub const NO_POSITION: i32 = -9;
+    /// The task does not fit there.
     pub const MISFIT: i32 = -10;
+    /// The number is not running.
     pub const NOT_RUNNING: i32 = -11;
 }
 
@@ -50,7 +61,7 @@ pub fn task(bytes: &[u8]) -> Result<Task, i32> {
     if !is_sized(bytes) {
         return Err(refusal::TASK_LENGTH);
     }
-    Task::read(bytes).ok_or(refusal::TASK_NOT_WELL_FORMED)
+    Task::from_bytes(bytes).ok_or(refusal::TASK_NOT_WELL_FORMED)
 }
 
 /// New: writes the record with all cells free. Answers 0, −1 or −3.
@@ -58,7 +69,7 @@ pub fn new(record: &mut [u8], rows: u32, kinds: &[u8]) -> i32 {
     let Ok(record) = <&mut Record>::try_from(record) else {
         return refusal::RECORD_LENGTH;
     };
-    if !record::is_device(rows, kinds) {
+    if !record::device_ok(rows, kinds) {
         return refusal::DEVICE_OR_COLUMN;
     }
     record.fill(0);
@@ -86,12 +97,12 @@ fn try_place(record: &mut [u8], bytes: &[u8], number: u32, column: u32, bottom: 
     if !record::fits(record, &task, column, bottom) {
         return Err(refusal::MISFIT);
     }
-    let at = Place {
+    let entry = Entry {
         number,
         column: column as usize,
         bottom: bottom as u32,
     };
-    record::enter(record, index, at, &task, bytes);
+    record::enter(record, index, entry, &task, bytes);
     Ok(0)
 }
 
@@ -129,14 +140,14 @@ pub fn search_list(record: &Record, bytes: &[u8], output: &mut [u8]) -> Answer {
     let mut room = output.chunks_exact_mut(RANGE_SIZE);
     let mut count = 0;
     for column in 0..record::columns(record) {
-        let ranges = search.column(record, &task, column);
-        for (span, range) in ranges.spans().iter().zip(&mut room) {
-            range[0] = column as u8;
-            range[1] = ranges.step as u8;
-            put_word(range, 2, span.first as u32);
-            put_word(range, 4, span.last as u32);
+        let ranges = search.column_ranges(record, &task, column);
+        for (range, part) in ranges.all().iter().zip(&mut room) {
+            part[0] = column as u8;
+            part[RANGE_STEP_AT] = ranges.step as u8;
+            put_word(part, RANGE_FIRST_AT, range.first as u32);
+            put_word(part, RANGE_LAST_AT, range.last as u32);
         }
-        count += ranges.spans().len();
+        count += ranges.all().len();
     }
     match count {
         0 => Err(refusal::NO_POSITION),
@@ -147,7 +158,7 @@ pub fn search_list(record: &Record, bytes: &[u8], output: &mut [u8]) -> Answer {
 /// Choose on a record that is known to be sound: the search alone, for measurements.
 pub fn search_choose(record: &Record, bytes: &[u8]) -> Answer {
     let task = task(bytes)?;
-    let (column, bottom) = choice::choose(record, &task).ok_or(refusal::NO_POSITION)?;
+    let (column, bottom) = choice::chosen(record, &task).ok_or(refusal::NO_POSITION)?;
     Ok(COLUMN_WEIGHT * column as i32 + bottom)
 }
 
@@ -158,7 +169,7 @@ pub fn interval_count(record: &[u8], column: u32) -> i32 {
 }
 
 /// The view: a column's intervals as a part of the record, empty where interval count refuses.
-pub fn intervals(record: &[u8], column: u32) -> &[u8] {
+pub fn view(record: &[u8], column: u32) -> &[u8] {
     counted(record, column).unwrap_or(&[])
 }
 

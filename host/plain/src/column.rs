@@ -26,17 +26,17 @@ pub fn intervals(part: &Part, count: usize) -> impl Iterator<Item = Interval> + 
     })
 }
 
-/// A new list of intervals, as one word for each.
+/// A new list of intervals, as one number for each.
 struct Stream {
     // One place more than there are intervals, for what is written and not kept.
-    words: [u32; MAX_INTERVALS + 1],
+    packed: [u32; MAX_INTERVALS + 1],
     count: usize,
 }
 
 impl Stream {
     fn new() -> Stream {
         Stream {
-            words: [0; MAX_INTERVALS + 1],
+            packed: [0; MAX_INTERVALS + 1],
             count: 0,
         }
     }
@@ -44,7 +44,7 @@ impl Stream {
     /// Appends an interval, unless it is empty: always written, and counted if it is kept.
     #[inline]
     fn push(&mut self, bottom: u32, top: u32) {
-        self.words[self.count] = bottom | top << 16;
+        self.packed[self.count] = bottom | top << 16;
         self.count += usize::from(bottom < top);
     }
 
@@ -52,9 +52,9 @@ impl Stream {
     #[inline]
     fn copy_to(&mut self, part: &mut Part) -> usize {
         // An empty interval may have been written last.
-        self.words[self.count] = 0;
-        for (bytes, word) in part.chunks_exact_mut(INTERVAL_SIZE).zip(&self.words) {
-            bytes.copy_from_slice(&word.to_le_bytes());
+        self.packed[self.count] = 0;
+        for (bytes, both) in part.chunks_exact_mut(INTERVAL_SIZE).zip(&self.packed) {
+            bytes.copy_from_slice(&both.to_le_bytes());
         }
         self.count
     }

@@ -6,6 +6,8 @@ use std::ops::Range;
 pub const MAX_ROWS: u32 = 128;
 /// The most columns of a device.
 pub const MAX_COLUMNS: usize = 64;
+/// The highest kind byte.
+pub const MAX_KIND: u8 = 2;
 /// The most blocks of a task.
 pub const MAX_BLOCKS: usize = 32;
 /// The most running tasks.
@@ -19,6 +21,8 @@ pub const REACH: i32 = 256;
 
 /// The bytes of a record.
 pub const RECORD_SIZE: usize = 29_188;
+/// Where the rows stand.
+pub const ROWS_AT: usize = 0;
 /// Where the number of columns stands.
 pub const COLUMNS_AT: usize = 2;
 /// Where the number of running tasks stands.
@@ -33,16 +37,32 @@ pub const INTERVALS_AT: usize = 132;
 pub const COLUMN_SIZE: usize = 256;
 /// The bytes of one interval.
 pub const INTERVAL_SIZE: usize = 4;
+/// Where the top stands in an interval; the bottom stands first.
+pub const INTERVAL_TOP_AT: usize = 2;
 /// Where the running entries start.
 pub const ENTRIES_AT: usize = 16_516;
 /// The bytes of one running entry.
 pub const ENTRY_SIZE: usize = 198;
+/// Where the task number stands in an entry.
+pub const ENTRY_NUMBER_AT: usize = 0;
+/// Where the column stands in an entry.
+pub const ENTRY_COLUMN_AT: usize = 2;
+/// Where the number of blocks stands in an entry.
+pub const ENTRY_COUNT_AT: usize = 3;
+/// Where the bottom stands in an entry.
+pub const ENTRY_BOTTOM_AT: usize = 4;
 /// Where the blocks start in an entry.
 pub const BLOCKS_AT: usize = 6;
 /// The bytes of one block.
 pub const BLOCK_SIZE: usize = 6;
 /// The bytes of one range of a listing.
 pub const RANGE_SIZE: usize = 6;
+/// Where the step stands in a range.
+pub const RANGE_STEP_AT: usize = 1;
+/// Where the first bottom stands in a range.
+pub const RANGE_FIRST_AT: usize = 2;
+/// Where the last bottom stands in a range.
+pub const RANGE_LAST_AT: usize = 4;
 /// The least output of list.
 pub const LIST_ROOM: usize = 24_576;
 /// What a column counts for in the answer of choose.
@@ -76,13 +96,13 @@ pub fn put_word(bytes: &mut [u8], at: usize, value: u32) {
 }
 
 /// The bytes of a running entry.
-pub fn entry_range(index: usize) -> Range<usize> {
+pub fn entry_part(index: usize) -> Range<usize> {
     let start = ENTRIES_AT + ENTRY_SIZE * index;
     start..start + ENTRY_SIZE
 }
 
 /// The bytes of a column's intervals.
-pub fn part_range(column: usize) -> Range<usize> {
+pub fn column_part(column: usize) -> Range<usize> {
     let start = INTERVALS_AT + COLUMN_SIZE * column;
     start..start + COLUMN_SIZE
 }

@@ -19,4 +19,4 @@ pub mod listing;
 pub mod record;
 pub mod task;
 
-pub use calls::{choose, interval_count, intervals, list, new, place, release};
+pub use calls::{choose, interval_count, list, new, place, release, view};

@@ -1,12 +1,12 @@
 //! The ranges of a task in one column: the first block's, met with each further block's.
 
 use crate::layout::{height, Record, MAX_INTERVALS};
-use crate::record::{column_intervals, kinds_match};
+use crate::record::{column_intervals, on_columns};
 use crate::task::{Block, Task};
 
 /// Bottoms from first to last, a step apart.
 #[derive(Clone, Copy, Debug, PartialEq, Eq)]
-pub struct Span {
+pub struct Range {
     /// The lowest bottom.
     pub first: i32,
     /// The highest bottom.
@@ -15,7 +15,7 @@ pub struct Span {
 
 /// Ranges of one step, rising, each as long as can be.
 pub struct Ranges {
-    spans: [Span; MAX_INTERVALS],
+    list: [Range; MAX_INTERVALS],
     count: usize,
     /// How far the bottoms of a range are apart.
     pub step: i32,
@@ -24,14 +24,14 @@ pub struct Ranges {
 impl Ranges {
     /// No ranges.
     pub const EMPTY: Ranges = Ranges {
-        spans: [Span { first: 0, last: 0 }; MAX_INTERVALS],
+        list: [Range { first: 0, last: 0 }; MAX_INTERVALS],
         count: 0,
         step: 1,
     };
 
     /// The ranges.
-    pub fn spans(&self) -> &[Span] {
-        &self.spans[..self.count]
+    pub fn all(&self) -> &[Range] {
+        &self.list[..self.count]
     }
 
     /// Empties the list for ranges of a step.
@@ -41,14 +41,14 @@ impl Ranges {
     }
 
     /// Appends a range, or makes the last one longer where they follow on each other.
-    fn append(&mut self, span: Span) {
-        if let Some(last) = self.spans[..self.count].last_mut() {
-            if span.first == last.last + self.step {
-                last.last = span.last;
+    fn push(&mut self, range: Range) {
+        if let Some(last) = self.list[..self.count].last_mut() {
+            if range.first == last.last + self.step {
+                last.last = range.last;
                 return;
             }
         }
-        self.spans[self.count] = span;
+        self.list[self.count] = range;
         self.count += 1;
     }
 }
@@ -67,25 +67,25 @@ impl Search {
     };
 
     /// The ranges of a task whose first block is in the column.
-    pub fn column(&mut self, record: &Record, task: &Task, column: usize) -> &Ranges {
+    pub fn column_ranges(&mut self, record: &Record, task: &Task, column: usize) -> &Ranges {
         // Turns are taken by exchanging references: the lists themselves are large.
         let (mut now, mut next) = (&mut self.now, &mut self.next);
         now.restart(1);
-        if !kinds_match(record, task, column) {
+        if !on_columns(record, task, column) {
             return now;
         }
         let Some((first, others)) = task.blocks().split_first() else {
             return now;
         };
         now.restart(height(first.kind()) as i32);
-        for span in block_spans(record, first, column) {
-            now.append(span);
+        for range in block_ranges(record, first, column) {
+            now.push(range);
         }
         for block in others {
             if now.count == 0 {
                 break;
             }
-            meet_all(now, record, block, column, next);
+            meet_block(now, record, block, column, next);
             std::mem::swap(&mut now, &mut next);
         }
         now
@@ -93,35 +93,35 @@ impl Search {
 }
 
 /// The bottoms of the task at which a block fits: one range for each interval that is tall enough.
-fn block_spans<'a>(
+fn block_ranges<'a>(
     record: &'a Record,
     block: &'a Block,
     column: usize,
-) -> impl Iterator<Item = Span> + 'a {
+) -> impl Iterator<Item = Range> + 'a {
     column_intervals(record, column + block.column())
         .filter(|interval| interval.top - interval.bottom >= block.size())
-        .map(|interval| Span {
+        .map(|interval| Range {
             first: interval.bottom as i32 - block.bottom(),
             last: interval.top as i32 - block.top(),
         })
 }
 
 /// Meets ranges with those of one more block, by one walk up both.
-fn meet_all(now: &Ranges, record: &Record, block: &Block, column: usize, next: &mut Ranges) {
+fn meet_block(now: &Ranges, record: &Record, block: &Block, column: usize, next: &mut Ranges) {
     let step = height(block.kind()) as i32;
     next.restart(common_step(now.step, step));
-    let mut left = now.spans();
-    for right in block_spans(record, block, column) {
-        while let Some((&span, higher)) = left.split_first() {
-            if right.last < span.first {
+    let mut left = now.all();
+    for right in block_ranges(record, block, column) {
+        while let Some((&range, higher)) = left.split_first() {
+            if right.last < range.first {
                 break;
             }
-            if right.first <= span.last {
-                let met = meet(span, now.step, right, step, next.step);
+            if right.first <= range.last {
+                let met = meet(range, now.step, right, step, next.step);
                 if let Some(met) = met {
-                    next.append(met);
+                    next.push(met);
                 }
-                if right.last < span.last {
+                if right.last < range.last {
                     break;
                 }
             }
@@ -140,13 +140,13 @@ fn common_step(a: i32, b: i32) -> i32 {
 }
 
 /// The bottoms that both ranges name; their ends overlap.
-fn meet(a: Span, a_step: i32, b: Span, b_step: i32, step: i32) -> Option<Span> {
+fn meet(a: Range, a_step: i32, b: Range, b_step: i32, step: i32) -> Option<Range> {
     let low = a.first.max(b.first);
     let high = a.last.min(b.last);
     if a_step == b_step {
         // Of one step: they name the same bottoms, or none.
         let is_met = (a.first - b.first) % step == 0;
-        let met = Span {
+        let met = Range {
             first: low,
             last: high,
         };
@@ -158,7 +158,7 @@ fn meet(a: Span, a_step: i32, b: Span, b_step: i32, step: i32) -> Option<Span> {
     while first <= end {
         if (first - b.first) % b_step == 0 {
             let last = high - (high - first) % step;
-            return Some(Span { first, last });
+            return Some(Range { first, last });
         }
         first += a_step;
     }
@@ -171,18 +171,18 @@ mod tests {
 
     #[test]
     fn a_meeting_names_what_both_name() {
-        let names = |span: Span, step: i32, y: i32| {
-            (span.first..=span.last).contains(&y) && (y - span.first) % step == 0
+        let names = |range: Range, step: i32, y: i32| {
+            (range.first..=range.last).contains(&y) && (y - range.first) % step == 0
         };
         for (a_step, b_step) in [(2, 2), (5, 5), (2, 5), (5, 2), (10, 2), (10, 5)] {
             let step = common_step(a_step, b_step);
             for (first, other) in (0..12).flat_map(|a| (0..12).map(move |b| (a, b))) {
                 for (length, other_length) in (0..5).flat_map(|a| (0..5).map(move |b| (a, b))) {
-                    let a = Span {
+                    let a = Range {
                         first,
                         last: first + a_step * length,
                     };
-                    let b = Span {
+                    let b = Range {
                         first: other,
                         last: other + b_step * other_length,
                     };

@@ -26,7 +26,7 @@ pub fn count(record: &Record, column: usize) -> usize {
 
 /// A column's part.
 pub fn part(record: &Record, column: usize) -> &Part {
-    let bytes = &record[part_range(column)];
+    let bytes = &record[column_part(column)];
     bytes.try_into().expect("a part has 256 bytes")
 }
 
@@ -36,40 +36,40 @@ pub fn column_intervals(record: &Record, column: usize) -> impl Iterator<Item = 
 }
 
 /// The interval of a column that holds all half rows from low to high.
-pub fn column_holder(record: &Record, column: usize, low: u32, high: u32) -> Option<Interval> {
+pub fn home(record: &Record, column: usize, low: u32, high: u32) -> Option<Interval> {
     holder(part(record, column), count(record, column), low, high)
 }
 
 /// Changes a column's intervals by a routine that answers their new count.
 fn change(record: &mut Record, column: usize, with: impl FnOnce(&mut Part, usize) -> usize) {
     let count = count(record, column);
-    let bytes = &mut record[part_range(column)];
+    let bytes = &mut record[column_part(column)];
     let part = bytes.try_into().expect("a part has 256 bytes");
     record[COUNTS_AT + column] = with(part, count) as u8;
 }
 
 /// Writes a device with all cells free into a record of zeros.
 pub fn write_device(zeros: &mut Record, rows: u32, kinds: &[u8]) {
-    put_word(zeros, 0, rows);
+    put_word(zeros, ROWS_AT, rows);
     zeros[COLUMNS_AT] = kinds.len() as u8;
     zeros[KINDS_AT..KINDS_AT + kinds.len()].copy_from_slice(kinds);
     for (column, &kind) in kinds.iter().enumerate() {
         // A low card may have a column without a cell, and so without an interval.
         let top = top(kind, rows);
         zeros[COUNTS_AT + column] = u8::from(top > 0);
-        put_word(zeros, part_range(column).start + 2, top);
+        put_word(zeros, column_part(column).start + INTERVAL_TOP_AT, top);
     }
 }
 
 /// Whether rows and kinds are in their limits.
-pub fn is_device(rows: u32, kinds: &[u8]) -> bool {
+pub fn device_ok(rows: u32, kinds: &[u8]) -> bool {
     (1..=MAX_ROWS).contains(&rows)
         && (1..=MAX_COLUMNS).contains(&kinds.len())
-        && kinds.iter().all(|&kind| kind <= 2)
+        && kinds.iter().all(|&kind| kind <= MAX_KIND)
 }
 
 /// Whether every block stands in a column of its kind.
-pub fn kinds_match(record: &Record, task: &Task, column: usize) -> bool {
+pub fn on_columns(record: &Record, task: &Task, column: usize) -> bool {
     column + task.last_column() < columns(record)
         && task
             .blocks()
@@ -84,13 +84,13 @@ pub fn fits(record: &Record, task: &Task, column: u32, bottom: i32) -> bool {
         return false;
     }
     let column = column as usize;
-    kinds_match(record, task, column)
+    on_columns(record, task, column)
         && task.blocks().iter().all(|block| {
             let low = bottom + block.bottom();
             let high = bottom + block.top();
             low >= 0
                 && (low as u32).is_multiple_of(height(block.kind()))
-                && column_holder(record, column + block.column(), low as u32, high as u32).is_some()
+                && home(record, column + block.column(), low as u32, high as u32).is_some()
         })
 }
 
@@ -98,7 +98,7 @@ pub fn fits(record: &Record, task: &Task, column: u32, bottom: i32) -> bool {
 pub fn find(record: &Record, number: u32) -> Result<usize, usize> {
     let entries = record[ENTRIES_AT..].chunks_exact(ENTRY_SIZE);
     for (index, entry) in entries.take(running(record)).enumerate() {
-        let other = word(entry, 0);
+        let other = word(entry, ENTRY_NUMBER_AT);
         if other >= number {
             return if other == number {
                 Ok(index)
@@ -110,9 +110,9 @@ pub fn find(record: &Record, number: u32) -> Result<usize, usize> {
     Err(running(record))
 }
 
-/// A position for an entry, within the device.
+/// A running entry without its task: the number and the position, which is on the device.
 #[derive(Clone, Copy)]
-pub struct Place {
+pub struct Entry {
     /// The task's number.
     pub number: u32,
     /// The column.
@@ -122,23 +122,23 @@ pub struct Place {
 }
 
 /// Enters a task that fits, as the running entry of an index, and takes its cells.
-pub fn enter(record: &mut Record, index: usize, at: Place, task: &Task, bytes: &[u8]) {
+pub fn enter(record: &mut Record, index: usize, entry: Entry, task: &Task, bytes: &[u8]) {
     let running = running(record);
     if index < running {
-        let later = entry_range(index).start..entry_range(running).start;
-        record.copy_within(later, entry_range(index + 1).start);
+        let later = entry_part(index).start..entry_part(running).start;
+        record.copy_within(later, entry_part(index + 1).start);
     }
-    let entry = &mut record[entry_range(index)];
-    put_word(entry, 0, at.number);
-    entry[2] = at.column as u8;
-    entry[3] = task.blocks().len() as u8;
-    put_word(entry, 4, at.bottom);
-    entry[BLOCKS_AT..BLOCKS_AT + bytes.len()].copy_from_slice(bytes);
-    entry[BLOCKS_AT + bytes.len()..].fill(0);
+    let part = &mut record[entry_part(index)];
+    put_word(part, ENTRY_NUMBER_AT, entry.number);
+    part[ENTRY_COLUMN_AT] = entry.column as u8;
+    part[ENTRY_COUNT_AT] = task.blocks().len() as u8;
+    put_word(part, ENTRY_BOTTOM_AT, entry.bottom);
+    part[BLOCKS_AT..BLOCKS_AT + bytes.len()].copy_from_slice(bytes);
+    part[BLOCKS_AT + bytes.len()..].fill(0);
     record[RUNNING_AT] += 1;
     for block in task.blocks() {
-        let low = at.bottom.wrapping_add_signed(block.bottom());
-        change(record, at.column + block.column(), |part, count| {
+        let low = entry.bottom.wrapping_add_signed(block.bottom());
+        change(record, entry.column + block.column(), |part, count| {
             cut(part, count, low, low + block.size())
         });
     }
@@ -146,12 +146,12 @@ pub fn enter(record: &mut Record, index: usize, at: Place, task: &Task, bytes: &
 
 /// Takes a running entry out and frees its cells.
 pub fn leave(record: &mut Record, index: usize) {
-    let entry = &record[entry_range(index)];
-    let bytes = BLOCK_SIZE * usize::from(entry[3]);
-    let column = usize::from(entry[2]);
-    let bottom = word(entry, 4);
+    let part = &record[entry_part(index)];
+    let bytes = BLOCK_SIZE * usize::from(part[ENTRY_COUNT_AT]);
+    let column = usize::from(part[ENTRY_COLUMN_AT]);
+    let bottom = word(part, ENTRY_BOTTOM_AT);
     // A sound record has well-formed tasks only, so none is never met.
-    let task = Task::read(&entry[BLOCKS_AT..BLOCKS_AT + bytes]);
+    let task = Task::from_bytes(&part[BLOCKS_AT..BLOCKS_AT + bytes]);
     for block in task.iter().flat_map(Task::blocks) {
         let low = bottom.wrapping_add_signed(block.bottom());
         change(record, column + block.column(), |part, count| {
@@ -159,20 +159,20 @@ pub fn leave(record: &mut Record, index: usize) {
         });
     }
     let last = running(record) - 1;
-    let later = entry_range(index + 1).start..entry_range(last).end;
-    record.copy_within(later, entry_range(index).start);
-    record[entry_range(last)].fill(0);
+    let later = entry_part(index + 1).start..entry_part(last).end;
+    record.copy_within(later, entry_part(index).start);
+    record[entry_part(last)].fill(0);
     record[RUNNING_AT] -= 1;
 }
 
 /// Whether a record is sound: it equals one that is built anew from its device and tasks.
 pub fn is_sound(record: &Record) -> bool {
-    let rows = word(record, 0);
+    let rows = word(record, ROWS_AT);
     if columns(record) > MAX_COLUMNS || running(record) > MAX_RUNNING {
         return false;
     }
     let kinds = &record[KINDS_AT..KINDS_AT + columns(record)];
-    if !is_device(rows, kinds) {
+    if !device_ok(rows, kinds) {
         return false;
     }
     let mut scratch = [0; RECORD_SIZE];
@@ -184,27 +184,27 @@ pub fn is_sound(record: &Record) -> bool {
 fn rebuild(record: &Record, scratch: &mut Record) -> bool {
     let mut previous = 0;
     for index in 0..running(record) {
-        let entry = &record[entry_range(index)];
-        let number = word(entry, 0);
-        let blocks = usize::from(entry[3]);
+        let part = &record[entry_part(index)];
+        let number = word(part, ENTRY_NUMBER_AT);
+        let blocks = usize::from(part[ENTRY_COUNT_AT]);
         if number <= previous || !(1..=MAX_BLOCKS).contains(&blocks) {
             return false;
         }
         previous = number;
-        let bytes = &entry[BLOCKS_AT..BLOCKS_AT + BLOCK_SIZE * blocks];
-        let Some(task) = Task::read(bytes) else {
+        let bytes = &part[BLOCKS_AT..BLOCKS_AT + BLOCK_SIZE * blocks];
+        let Some(task) = Task::from_bytes(bytes) else {
             return false;
         };
-        let (column, bottom) = (entry[2], word(entry, 4));
+        let (column, bottom) = (part[ENTRY_COLUMN_AT], word(part, ENTRY_BOTTOM_AT));
         if !fits(scratch, &task, u32::from(column), bottom as i32) {
             return false;
         }
-        let at = Place {
+        let entry = Entry {
             number,
             column: usize::from(column),
             bottom,
         };
-        enter(scratch, index, at, &task, bytes);
+        enter(scratch, index, entry, &task, bytes);
     }
     true
 }

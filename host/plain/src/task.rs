@@ -1,6 +1,6 @@
 //! A task's blocks, read once from its bytes, with all that makes it well-formed tested on the way.
 
-use crate::layout::{height, BLOCK_SIZE, MAX_BLOCKS, MAX_COLUMNS, REACH};
+use crate::layout::{height, BLOCK_SIZE, MAX_BLOCKS, MAX_COLUMNS, MAX_KIND, REACH};
 
 /// A block; bottom and top are relative to the first block's bottom.
 ///
@@ -34,31 +34,13 @@ impl Block {
         top: 0,
     };
 
-    fn read(bytes: &[u8]) -> Block {
+    fn from_bytes(bytes: &[u8]) -> Block {
         Block {
             column: bytes[0],
             kind: bytes[1],
             bottom: i16::from_le_bytes([bytes[2], bytes[3]]),
             top: i16::from_le_bytes([bytes[4], bytes[5]]),
         }
-    }
-
-    /// What well-formedness asks of one block alone.
-    fn is_good(&self) -> bool {
-        self.column() < MAX_COLUMNS
-            && self.kind <= 2
-            && self.bottom() >= -REACH
-            && self.top() <= REACH
-            && self.bottom < self.top
-            && self.size().is_multiple_of(height(self.kind))
-    }
-
-    /// What well-formedness asks of two blocks in a row.
-    fn may_follow(&self, previous: &Block) -> bool {
-        self.column > previous.column
-            || (self.column == previous.column
-                && self.kind == previous.kind
-                && self.bottom > previous.top)
     }
 
     /// The column, counted from the task's first.
@@ -87,21 +69,39 @@ impl Block {
     }
 }
 
+/// What well-formedness asks of one block alone.
+fn block_ok(block: &Block) -> bool {
+    block.column() < MAX_COLUMNS
+        && block.kind <= MAX_KIND
+        && block.bottom() >= -REACH
+        && block.top() <= REACH
+        && block.bottom < block.top
+        && block.size().is_multiple_of(height(block.kind))
+}
+
+/// What well-formedness asks of two blocks in a row.
+fn follows(previous: &Block, block: &Block) -> bool {
+    block.column > previous.column
+        || (block.column == previous.column
+            && block.kind == previous.kind
+            && block.bottom > previous.top)
+}
+
 impl Task {
     /// Reads bytes of a good length; none where the task is not well-formed.
-    pub fn read(bytes: &[u8]) -> Option<Task> {
+    pub fn from_bytes(bytes: &[u8]) -> Option<Task> {
         let mut task = Task {
             blocks: [Block::ZERO; MAX_BLOCKS],
             count: bytes.len() / BLOCK_SIZE,
         };
         let mut previous: Option<Block> = None;
         for (place, bytes) in task.blocks.iter_mut().zip(bytes.chunks_exact(BLOCK_SIZE)) {
-            let block = Block::read(bytes);
+            let block = Block::from_bytes(bytes);
             let is_next = match previous {
                 None => block.column == 0 && block.bottom == 0,
-                Some(previous) => block.may_follow(&previous),
+                Some(previous) => follows(&previous, &block),
             };
-            if !is_next || !block.is_good() {
+            if !is_next || !block_ok(&block) {
                 return None;
             }
             *place = block;

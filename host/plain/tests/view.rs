@@ -16,8 +16,8 @@ fn the_view_is_the_oracles() {
             record.truncate(rng.below(record.len()));
         }
         let column = rng.pick(&[0, 1, 5, 63, 64, 255, 256, u32::MAX]);
-        let part = plain::intervals(&record, column);
-        assert_eq!(part, oracle::calls::intervals(&record, column));
+        let part = plain::view(&record, column);
+        assert_eq!(part, oracle::calls::view(&record, column));
         let count = plain::interval_count(&record, column);
         assert_eq!(count, oracle::calls::interval_count(&record, column));
         if count > 0 {

@@ -5,7 +5,7 @@ use calls::Calls;
 use oracle::arbitrary::{self, Mood};
 use oracle::history::{Call, Outcome};
 use oracle::layout::*;
-use oracle::listing::OUTPUT_BYTES;
+use oracle::listing::LIST_ROOM;
 use oracle::rng::Rng;
 use oracle::{sound, Book, Refusal};
 
@@ -34,7 +34,7 @@ pub fn one_of_each(rng: &mut Rng, book: &Book) -> Vec<Call> {
     vec![
         Call::List {
             task: task.clone(),
-            output_bytes: OUTPUT_BYTES,
+            output_bytes: LIST_ROOM,
             fill: rng.byte(),
         },
         Call::Choose { task },
@@ -89,7 +89,7 @@ pub fn every_byte(subject: &dyn Calls, seed: u64, book: &Book) -> Trial<Tally> {
     let calls = one_of_each(&mut rng, book);
     let mut record = oracle::record::record_of(book);
     let mut tally = Tally::default();
-    for at in 0..RECORD_BYTES {
+    for at in 0..RECORD_SIZE {
         let old = record[at];
         record[at] = match rng.below(3) {
             0 => old ^ (1 << rng.below(8)),
@@ -129,8 +129,8 @@ pub fn mixed_up(subject: &dyn Calls, seed: u64, count: usize) -> Trial<Tally> {
         let book = arbitrary::book(&mut rng, 20);
         let mut record = oracle::record::record_of(&book);
         let other = oracle::record::record_of(&arbitrary::book(&mut rng, 20));
-        let start = rng.pick(&[0, KINDS, COUNTS, INTERVALS, ENTRIES]);
-        let end = rng.pick(&[KINDS, COUNTS, INTERVALS, ENTRIES, RECORD_BYTES]);
+        let start = rng.pick(&[0, KINDS_AT, COUNTS_AT, INTERVALS_AT, ENTRIES_AT]);
+        let end = rng.pick(&[KINDS_AT, COUNTS_AT, INTERVALS_AT, ENTRIES_AT, RECORD_SIZE]);
         if start < end {
             record[start..end].copy_from_slice(&other[start..end]);
         }
@@ -146,9 +146,9 @@ pub fn lengths(subject: &dyn Calls, seed: u64) -> Trial<()> {
     let book = arbitrary::book(&mut rng, 30);
     let record = oracle::record::record_of(&book);
     let calls = one_of_each(&mut rng, &book);
-    let near = RECORD_BYTES - 20..RECORD_BYTES + 20;
-    let far = [0, 1, 2, 3, 4, 131, 132, ENTRIES, 2 * RECORD_BYTES, 65_536];
-    for length in near.chain(far).filter(|&length| length != RECORD_BYTES) {
+    let near = RECORD_SIZE - 20..RECORD_SIZE + 20;
+    let far = [0, 1, 2, 3, 4, 131, 132, ENTRIES_AT, 2 * RECORD_SIZE, 65_536];
+    for length in near.chain(far).filter(|&length| length != RECORD_SIZE) {
         let mut bytes = record.clone();
         bytes.resize(length, 0);
         refuses(subject, &bytes, &calls, Refusal::RecordLength.number())?;
@@ -162,9 +162,9 @@ pub fn random_bytes(subject: &dyn Calls, seed: u64, count: usize) -> Trial<Tally
     let mut tally = Tally::default();
     for _ in 0..count {
         let book = arbitrary::book(&mut rng, 3);
-        let mut bytes: Vec<u8> = (0..RECORD_BYTES).map(|_| rng.byte()).collect();
+        let mut bytes: Vec<u8> = (0..RECORD_SIZE).map(|_| rng.byte()).collect();
         let sound = oracle::record::record_of(&book);
-        let kept = rng.pick(&[0, KINDS, COUNTS, INTERVALS, ENTRIES]);
+        let kept = rng.pick(&[0, KINDS_AT, COUNTS_AT, INTERVALS_AT, ENTRIES_AT]);
         bytes[..kept].copy_from_slice(&sound[..kept]);
         if rng.percent(30) {
             // All the same byte: zeros are no record either.

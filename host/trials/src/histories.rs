@@ -5,7 +5,7 @@ use std::collections::BTreeMap;
 use calls::Calls;
 use oracle::arbitrary::{self, Mood};
 use oracle::calls as wanted;
-use oracle::layout::RECORD_BYTES;
+use oracle::layout::RECORD_SIZE;
 use oracle::rng::Rng;
 use oracle::Device;
 
@@ -122,12 +122,12 @@ pub fn long_on_largest(
 pub fn devices(subject: &dyn Calls, seed: u64, count: usize) -> Trial<Answers> {
     let mut rng = Rng::new(seed);
     let mut answers = Answers::new();
-    let lengths = [0, 1, RECORD_BYTES - 1, RECORD_BYTES + 1, 2 * RECORD_BYTES];
+    let lengths = [0, 1, RECORD_SIZE - 1, RECORD_SIZE + 1, 2 * RECORD_SIZE];
     for _ in 0..count {
         let (rows, kinds) = arbitrary::device_arguments(&mut rng);
         let length = match rng.percent(20) {
             true => rng.pick(&lengths),
-            false => RECORD_BYTES,
+            false => RECORD_SIZE,
         };
         let mut record = vec![rng.byte(); length];
         let mut expected = record.clone();

@@ -2,7 +2,7 @@
 
 use calls::Calls;
 use oracle::history::{Call, Outcome};
-use oracle::layout::RECORD_BYTES;
+use oracle::layout::RECORD_SIZE;
 use oracle::record::record_of;
 use oracle::{Book, Device, Refusal};
 
@@ -51,7 +51,7 @@ pub fn first_difference(left: &[u8], right: &[u8]) -> String {
 impl<'a> Pair<'a> {
     /// Starts a history with new on a device.
     pub fn new(subject: &'a dyn Calls, device: Device) -> Trial<Pair<'a>> {
-        let mut record = vec![JUNK; RECORD_BYTES];
+        let mut record = vec![JUNK; RECORD_SIZE];
         let answer = subject.new(&mut record, device.rows(), &device.kind_bytes());
         ensure(answer == 0, || format!("new answers {answer} and not 0"))?;
         let book = Book::on(device);

@@ -4,10 +4,10 @@
 use calls::Calls;
 use oracle::arbitrary::{self, Mood};
 use oracle::history::Call;
-use oracle::listing::OUTPUT_BYTES;
+use oracle::listing::LIST_ROOM;
 use oracle::rng::Rng;
 use oracle::task::{bytes_of, Block};
-use oracle::{Book, Device, Kind};
+use oracle::{Book, Device, Kind, Position};
 
 use crate::histories::{any_device, small_device};
 use crate::pair::Pair;
@@ -22,7 +22,7 @@ fn height(kind: Kind) -> i16 {
 pub fn list_call(task: &[u8]) -> Call {
     Call::List {
         task: task.to_vec(),
-        output_bytes: OUTPUT_BYTES,
+        output_bytes: LIST_ROOM,
         fill: 0x3C,
     }
 }
@@ -36,11 +36,12 @@ pub fn choose_call(task: &[u8]) -> Call {
 
 /// A place call at the position that choose answered.
 fn place_call(task: &[u8], number: u32, chosen: i32) -> Call {
+    let at = Position::of_answer(chosen);
     Call::Place {
         task: task.to_vec(),
         number,
-        column: (chosen / 1024) as u32,
-        bottom: chosen % 1024,
+        column: at.column,
+        bottom: at.bottom,
     }
 }
 

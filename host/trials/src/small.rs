@@ -11,8 +11,26 @@ use crate::pair::Pair;
 use crate::shapes::{choose_call, list_call};
 use crate::Trial;
 
+/// Cards to try exhaustively: devices, and the tasks to try on each of them.
+pub struct Cards {
+    /// The devices.
+    pub devices: Vec<Device>,
+    /// The bytes of the tasks.
+    pub tasks: Vec<Vec<u8>>,
+}
+
+impl Cards {
+    /// Every device of up to so many rows and columns, and every task within a reach.
+    pub fn up_to(rows: u32, columns: u32, reach: i16) -> Cards {
+        Cards {
+            devices: devices(rows, columns),
+            tasks: tasks(reach),
+        }
+    }
+}
+
 /// Every device of up to so many rows and columns.
-pub fn devices(rows: u32, columns: u32) -> Vec<Device> {
+fn devices(rows: u32, columns: u32) -> Vec<Device> {
     let mut all = Vec::new();
     for count in 1..=columns {
         for code in 0..3usize.pow(count) {
@@ -43,7 +61,7 @@ fn blocks(column: u8, reach: i16) -> Vec<Block> {
 }
 
 /// Every well-formed task of one or two blocks, over one or two columns, within a reach.
-pub fn tasks(reach: i16) -> Vec<Vec<u8>> {
+fn tasks(reach: i16) -> Vec<Vec<u8>> {
     let mut all = Vec::new();
     for first in blocks(0, reach) {
         all.push(vec![first]);
@@ -63,11 +81,11 @@ fn positions(device: &Device) -> Vec<(u32, i32)> {
 }
 
 /// Lists and chooses every task on every device, empty; answers how many had a position.
-pub fn searches(subject: &dyn Calls, devices: &[Device], tasks: &[Vec<u8>]) -> Trial<usize> {
+pub fn searches(subject: &dyn Calls, cards: &Cards) -> Trial<usize> {
     let mut fitting = 0;
-    for device in devices {
+    for device in &cards.devices {
         let mut pair = Pair::new(subject, device.clone())?;
-        for task in tasks {
+        for task in &cards.tasks {
             fitting += usize::from(pair.call(&list_call(task))? > 0);
             pair.call(&choose_call(task))?;
         }
@@ -76,12 +94,12 @@ pub fn searches(subject: &dyn Calls, devices: &[Device], tasks: &[Vec<u8>]) -> T
 }
 
 /// Places every task at every position of every device, and releases it; answers how many fitted.
-pub fn placements(subject: &dyn Calls, devices: &[Device], tasks: &[Vec<u8>]) -> Trial<usize> {
+pub fn placements(subject: &dyn Calls, cards: &Cards) -> Trial<usize> {
     let mut fitting = 0;
-    for device in devices {
+    for device in &cards.devices {
         let mut pair = Pair::new(subject, device.clone())?;
         for (column, bottom) in positions(device) {
-            for task in tasks {
+            for task in &cards.tasks {
                 let number = 7;
                 let placed = pair.call(&Call::Place {
                     task: task.clone(),
@@ -124,7 +142,7 @@ pub fn alphabet(device: &Device, tasks: &[Vec<u8>], numbers: &[u32]) -> Vec<Call
 
 /// What a search through histories went through.
 #[derive(Clone, Copy, Debug, Default, PartialEq, Eq)]
-pub struct Covered {
+pub struct Coverage {
     /// Different books.
     pub books: usize,
     /// Calls made.
@@ -147,16 +165,16 @@ fn key(book: &Book) -> Key {
 ///
 /// Since the record is the book's after every call, and a call sees nothing but
 /// its arguments, this covers every history over these calls, of any length.
-pub fn every_book(subject: &dyn Calls, device: &Device, calls: &[Call]) -> Trial<Covered> {
+pub fn every_book(subject: &dyn Calls, device: &Device, calls: &[Call]) -> Trial<Coverage> {
     let start = Pair::new(subject, device.clone())?;
     let mut seen = HashSet::from([key(start.book())]);
     let mut open = vec![start];
-    let mut covered = Covered::default();
+    let mut coverage = Coverage::default();
     while let Some(pair) = open.pop() {
-        covered.books += 1;
+        coverage.books += 1;
         let mut next = pair.clone();
         for call in calls {
-            covered.calls += 1;
+            coverage.calls += 1;
             let answer = next.call(call)?;
             let changes = matches!(call, Call::Place { .. } | Call::Release { .. });
             if changes && answer == 0 {
@@ -167,7 +185,7 @@ pub fn every_book(subject: &dyn Calls, device: &Device, calls: &[Call]) -> Trial
             }
         }
     }
-    Ok(covered)
+    Ok(coverage)
 }
 
 /// Makes every history of a length, call by call, without leaving any out; answers the calls made.

@@ -83,11 +83,11 @@ impl Fault {
     fn read(self, record: &[u8]) -> Vec<u8> {
         let mut bytes = record.to_vec();
         match self {
-            Fault::LastByteUnread if bytes.len() == RECORD_BYTES => bytes[RECORD_BYTES - 1] = 0,
-            Fault::CountUnread if bytes.len() == RECORD_BYTES && bytes[COLUMNS] < 64 => {
-                bytes[COUNTS + 63] = 0;
+            Fault::LastByteUnread if bytes.len() == RECORD_SIZE => bytes[RECORD_SIZE - 1] = 0,
+            Fault::CountUnread if bytes.len() == RECORD_SIZE && bytes[COLUMNS_AT] < 64 => {
+                bytes[COUNTS_AT + 63] = 0;
             }
-            Fault::LongRecord => bytes.truncate(RECORD_BYTES),
+            Fault::LongRecord => bytes.truncate(RECORD_SIZE),
             Fault::RefuseAll => bytes[0] = 255,
             _ => {}
         }
@@ -98,7 +98,7 @@ impl Fault {
 /// Undoes a joining with the free cells above a released block.
 fn split_again(before: &[u8], after: &mut [u8]) {
     for column in 0..64 {
-        let (old, new) = (before[COUNTS + column], after[COUNTS + column]);
+        let (old, new) = (before[COUNTS_AT + column], after[COUNTS_AT + column]);
         if new >= old {
             continue;
         }
@@ -106,22 +106,22 @@ fn split_again(before: &[u8], after: &mut [u8]) {
         let tops = old_part.chunks(4).take(usize::from(old));
         let old_bottom = |top: u16| {
             tops.clone()
-                .find(|interval| two_bytes(interval, 2) == top)
-                .map(|interval| two_bytes(interval, 0))
+                .find(|interval| word(interval, 2) == top)
+                .map(|interval| word(interval, 0))
         };
         let mut intervals = Vec::new();
         for interval in after[column_part(column)].chunks(4).take(usize::from(new)) {
-            let (bottom, top) = (two_bytes(interval, 0), two_bytes(interval, 2));
+            let (bottom, top) = (word(interval, 0), word(interval, 2));
             let middle = old_bottom(top).unwrap_or(bottom);
             if bottom < middle {
                 intervals.push((bottom, middle));
             }
             intervals.push((middle, top));
         }
-        after[COUNTS + column] = intervals.len() as u8;
+        after[COUNTS_AT + column] = intervals.len() as u8;
         for (at, (bottom, top)) in intervals.into_iter().enumerate() {
-            put_two_bytes(&mut after[column_part(column)], 4 * at, bottom);
-            put_two_bytes(&mut after[column_part(column)], 4 * at + 2, top);
+            put_word(&mut after[column_part(column)], 4 * at, bottom);
+            put_word(&mut after[column_part(column)], 4 * at + 2, top);
         }
     }
 }
@@ -135,14 +135,14 @@ impl Calls for Fault {
         let before = record.to_vec();
         let answer = Plain.new(record, rows, kinds);
         if *self == Fault::NewLeavesBytes && answer == 0 {
-            record[ENTRIES..].copy_from_slice(&before[ENTRIES..]);
+            record[ENTRIES_AT..].copy_from_slice(&before[ENTRIES_AT..]);
         }
         answer
     }
 
     fn place(&self, record: &mut [u8], task: &[u8], number: u32, column: u32, bottom: i32) -> i32 {
         let mut seen = self.read(record);
-        let is_second = seen.get(RUNNING).is_some_and(|&running| running > 0);
+        let is_second = seen.get(RUNNING_AT).is_some_and(|&running| running > 0);
         let answer = match self {
             Fault::NumberBeforeTask if number == 0 && Plain.release(&mut seen, 0) == -11 => -7,
             Fault::NumberCut => Plain.place(&mut seen, task, number % 65_536, column, bottom),
@@ -170,7 +170,7 @@ impl Calls for Fault {
         if *self == Fault::ReleaseJoinsBelowOnly {
             split_again(record, &mut seen);
         }
-        let last = entry_part(usize::from(seen[RUNNING]));
+        let last = entry_part(usize::from(seen[RUNNING_AT]));
         if *self == Fault::ReleaseLeavesBytes {
             seen[last.clone()].copy_from_slice(&record[last]);
         }
@@ -199,11 +199,11 @@ impl Calls for Fault {
                 return -9
             }
             Fault::SplitRange if answer > 0 && output[2..4] != output[4..6] => {
-                let first = two_bytes(output, 2);
+                let first = word(output, 2);
                 let second = first + u16::from(output[1]);
                 output.copy_within(0..end, 6);
-                put_two_bytes(output, 4, first);
-                put_two_bytes(output, 8, second);
+                put_word(output, 4, first);
+                put_word(output, 8, second);
                 return answer + 1;
             }
             _ => {}
@@ -217,9 +217,9 @@ impl Calls for Fault {
         match self {
             Fault::NoSearch if answer >= 0 => -9,
             Fault::ChooseFirst if answer >= 0 => {
-                let mut output = vec![0; oracle::listing::OUTPUT_BYTES];
+                let mut output = vec![0; oracle::listing::LIST_ROOM];
                 Plain.list(&seen, task, &mut output);
-                1024 * i32::from(output[0]) + i32::from(two_bytes(&output, 2))
+                oracle::fit::COLUMN_WEIGHT * i32::from(output[0]) + i32::from(word(&output, 2))
             }
             _ => answer,
         }
@@ -228,7 +228,7 @@ impl Calls for Fault {
     fn interval_count(&self, record: &[u8], column: u32) -> i32 {
         let seen = self.read(record);
         let answer = Plain.interval_count(&seen, column);
-        let is_next = answer == -3 && column == u32::from(seen[COLUMNS]);
+        let is_next = answer == -3 && column == u32::from(seen[COLUMNS_AT]);
         match self {
             Fault::ColumnTooMany if is_next => 0,
             _ => answer,
@@ -250,7 +250,7 @@ fn all_trials(subject: &dyn Calls) -> Trial<()> {
     let device = histories::small_device(&mut rng);
     let book = shapes::used_card(&mut rng, device, 20);
     damage::every_byte(subject, 1, &book)?;
-    small::searches(subject, &small::devices(4, 2), &small::tasks(6))?;
+    small::searches(subject, &small::Cards::up_to(4, 2, 6))?;
     Ok(())
 }
 

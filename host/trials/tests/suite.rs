@@ -5,6 +5,7 @@ use oracle::rng::Rng;
 use oracle::{Book, Device};
 use trials::histories::{self, Answers};
 use trials::pair::Pair;
+use trials::small::Cards;
 use trials::{damage, shapes, small, Trial};
 
 /// The trial's result, or a failed test that says what differed.
@@ -85,25 +86,13 @@ fn damaged_records(subject: &dyn Calls) {
 }
 
 fn small_cards_searched(subject: &dyn Calls) {
-    let fitting = must(small::searches(
-        subject,
-        &small::devices(6, 2),
-        &small::tasks(10),
-    ));
+    let fitting = must(small::searches(subject, &Cards::up_to(6, 2, 10)));
     assert!(fitting > 1000, "{fitting}");
-    must(small::searches(
-        subject,
-        &small::devices(3, 3),
-        &small::tasks(6),
-    ));
+    must(small::searches(subject, &Cards::up_to(3, 3, 6)));
 }
 
 fn small_cards_placed(subject: &dyn Calls) {
-    let fitting = must(small::placements(
-        subject,
-        &small::devices(5, 2),
-        &small::tasks(6),
-    ));
+    let fitting = must(small::placements(subject, &Cards::up_to(5, 2, 6)));
     assert!(fitting > 500, "{fitting}");
 }
 
@@ -127,8 +116,7 @@ fn small_histories(subject: &dyn Calls) {
     let mut books = 0;
     for (device, tasks) in cards {
         let calls = small::alphabet(&device, &tasks, &[1, 2, 65_535]);
-        let covered = must(small::every_book(subject, &device, &calls));
-        books += covered.books;
+        books += must(small::every_book(subject, &device, &calls)).books;
     }
     assert!(books > 300, "{books}");
     // Without passing over books that came before: a call might see more than its arguments.

@@ -4,7 +4,7 @@ use crate::arbitrary::{task, task_bytes};
 use crate::book::Book;
 use crate::fit::{fitting_positions, Position};
 use crate::history::Call;
-use crate::listing::OUTPUT_BYTES;
+use crate::listing::LIST_ROOM;
 use crate::rng::Rng;
 use crate::task::{Task, MAX_BLOCKS};
 
@@ -49,11 +49,11 @@ fn ask(rng: &mut Rng, book: &Book, mood: Mood) -> Call {
     if rng.percent(40) {
         return Call::Choose { task };
     }
-    let odd_length = [0, 6, OUTPUT_BYTES - 1, OUTPUT_BYTES + 1, OUTPUT_BYTES + 100];
+    let odd_length = [0, 6, LIST_ROOM - 1, LIST_ROOM + 1, LIST_ROOM + 100];
     let output_bytes = if rng.percent(mood.odd) {
         rng.pick(&odd_length)
     } else {
-        OUTPUT_BYTES
+        LIST_ROOM
     };
     let fill = rng.byte();
     Call::List {

@@ -11,4 +11,4 @@ mod sheets;
 pub use calls::{call, mood, Mood};
 pub use records::{book, damage};
 pub use shapes::{device, device_arguments, fitting_task, loose_task, task, task_bytes};
-pub use sheets::{line_calls, sheet_bytes, text_of};
+pub use sheets::{sheet_bytes, sheet_calls, text_of};

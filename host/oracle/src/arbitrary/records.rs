@@ -33,17 +33,17 @@ pub fn damage(rng: &mut Rng, record: &mut [u8]) {
 /// A byte of the record: in the head, in a used column, in a running entry, or anywhere.
 fn place_to_damage(rng: &mut Rng, record: &[u8]) -> usize {
     // Earlier damage may have hit these two, hence both limits.
-    let columns = usize::from(record[COLUMNS]).clamp(1, MAX_COLUMNS);
-    let running = usize::from(record[RUNNING]).clamp(1, MAX_RUNNING);
+    let columns = usize::from(record[COLUMNS_AT]).clamp(1, MAX_COLUMNS);
+    let running = usize::from(record[RUNNING_AT]).clamp(1, MAX_RUNNING);
     let column = rng.below(columns);
     match rng.below(7) {
-        0 => rng.below(KINDS),
-        1 => rng.pick(&[KINDS, COUNTS]) + column,
+        0 => rng.below(KINDS_AT),
+        1 => rng.pick(&[KINDS_AT, COUNTS_AT]) + column,
         2 => column_part(column).start + rng.below(16),
-        3 => entry_part(rng.below(running)).start + rng.below(ENTRY_BLOCKS + 12),
-        4 => entry_part(rng.below(running)).start + rng.below(ENTRY_BYTES),
+        3 => entry_part(rng.below(running)).start + rng.below(BLOCKS_AT + 12),
+        4 => entry_part(rng.below(running)).start + rng.below(ENTRY_SIZE),
         // Another number may leave the record sound.
         5 => entry_part(rng.below(running)).start + rng.below(2),
-        _ => rng.below(RECORD_BYTES),
+        _ => rng.below(RECORD_SIZE),
     }
 }

@@ -5,23 +5,23 @@ use crate::arbitrary::{call, device, mood, task_bytes};
 use crate::book::Book;
 use crate::device::{Device, Kind};
 use crate::history::Call;
-use crate::line::{LineCall, CALL_NAMES, DEVICE_NAMES};
+use crate::line::{SheetCall, FIRST_NAMES, SECOND_NAMES};
 use crate::rng::Rng;
-use crate::sheet::INPUT_BYTES;
-use crate::task::{Block, BLOCK_BYTES};
+use crate::sheet::MAX_SHEET;
+use crate::task::{Block, BLOCK_SIZE};
 
-/// The line calls of a random history on a device.
-pub fn line_calls(rng: &mut Rng, device: &Device, steps: usize) -> Vec<LineCall> {
+/// The sheet calls of a random history of so many calls on a device.
+pub fn sheet_calls(rng: &mut Rng, device: &Device, count: usize) -> Vec<SheetCall> {
     let mut book = Book::on(device.clone());
     let mood = mood(rng);
     let mut calls = Vec::new();
-    for _ in 0..steps {
+    for _ in 0..count {
         let call = call(rng, &book, mood);
-        let Some(mut lines) = lines_of(rng, &call) else {
+        let Some(mut more) = sheet_calls_of(rng, &call) else {
             continue;
         };
         call.on_book(&mut book);
-        calls.append(&mut lines);
+        calls.append(&mut more);
         if rng.percent(5) {
             calls.extend(stray_block(rng, device));
         }
@@ -29,56 +29,60 @@ pub fn line_calls(rng: &mut Rng, device: &Device, steps: usize) -> Vec<LineCall>
     calls
 }
 
-/// A history's call as sheet lines; none where a field could not carry it.
-fn lines_of(rng: &mut Rng, call: &Call) -> Option<Vec<LineCall>> {
-    let (task, last) = match call {
-        Call::Release { number } => {
-            let number = u16::try_from(*number).ok()?;
-            return Some(vec![LineCall::Release { number }]);
-        }
-        Call::List { task, .. } => (task, LineCall::List),
-        Call::Choose { task } => (task, LineCall::Choose),
+/// A history's call as a sheet's, the draft being its task; none where a field could not carry it.
+fn sheet_call(call: &Call) -> Option<SheetCall> {
+    Some(match *call {
+        Call::List { .. } => SheetCall::ListDraft,
+        Call::Choose { .. } => SheetCall::ChooseDraft,
         Call::Place {
-            task,
             number,
             column,
             bottom,
-        } => {
-            let place = LineCall::Place {
-                number: u16::try_from(*number).ok()?,
-                column: u8::try_from(*column).ok()?,
-                bottom: i16::try_from(*bottom).ok()?,
-            };
-            (task, place)
-        }
+            ..
+        } => SheetCall::PlaceDraft {
+            task: u16::try_from(number).ok()?,
+            column: u8::try_from(column).ok()?,
+            bottom: i16::try_from(bottom).ok()?,
+        },
+        Call::Release { number } => SheetCall::ReleaseTask {
+            task: u16::try_from(number).ok()?,
+        },
+    })
+}
+
+/// A history's call with the calls that draft its task; none where a field could not carry it.
+fn sheet_calls_of(rng: &mut Rng, call: &Call) -> Option<Vec<SheetCall>> {
+    let last = sheet_call(call)?;
+    let Some(task) = call.task() else {
+        return Some(vec![last]);
     };
-    let mut lines = vec![LineCall::Empty];
-    for bytes in task.chunks_exact(BLOCK_BYTES) {
+    let mut calls = vec![SheetCall::EmptyDraft];
+    for bytes in task.chunks_exact(BLOCK_SIZE) {
         let b = [bytes[0], bytes[1], bytes[2], bytes[3], bytes[4], bytes[5]];
-        lines.push(LineCall::Block(Block::from_bytes(b)?));
+        calls.push(SheetCall::AddBlock(Block::from_bytes(b)?));
     }
-    lines.push(last);
+    calls.push(last);
     // The draft stays after each of these calls, so asking again is of use.
     if rng.percent(30) {
-        lines.push(rng.pick(&[LineCall::List, LineCall::Choose, last]));
+        calls.push(rng.pick(&[SheetCall::ListDraft, SheetCall::ChooseDraft, last]));
     }
-    Some(lines)
+    Some(calls)
 }
 
 /// A block that may or may not belong to the draft.
-fn stray_block(rng: &mut Rng, device: &Device) -> Option<LineCall> {
+fn stray_block(rng: &mut Rng, device: &Device) -> Option<SheetCall> {
     let bytes = task_bytes(rng, device, 2);
-    let first = bytes.first_chunk::<BLOCK_BYTES>()?;
-    Block::from_bytes(*first).map(LineCall::Block)
+    let first = bytes.first_chunk::<BLOCK_SIZE>()?;
+    Block::from_bytes(*first).map(SheetCall::AddBlock)
 }
 
 /// The sheet of a device and calls.
-pub fn text_of(device: &Device, calls: &[LineCall]) -> Vec<u8> {
-    let mut text = DEVICE_NAMES.to_vec();
+pub fn text_of(device: &Device, calls: &[SheetCall]) -> Vec<u8> {
+    let mut text = FIRST_NAMES.to_vec();
     text.extend(format!("\n{} ", device.rows()).bytes());
     text.extend(device.kinds().iter().map(|kind| Kind::letter(*kind)));
     text.push(b'\n');
-    text.extend(CALL_NAMES);
+    text.extend(SECOND_NAMES);
     text.push(b'\n');
     for call in calls {
         text.extend(format!("{call}\n").bytes());
@@ -89,8 +93,8 @@ pub fn text_of(device: &Device, calls: &[LineCall]) -> Vec<u8> {
 /// Any sheet: mostly well-formed, with damaged lines, or cut, or too long.
 pub fn sheet_bytes(rng: &mut Rng) -> Vec<u8> {
     let device = device(rng);
-    let steps = rng.below(30);
-    let calls = line_calls(rng, &device, steps);
+    let count = rng.below(30);
+    let calls = sheet_calls(rng, &device, count);
     let mut text = text_of(&device, &calls);
     let after_names = text_of(&device, &[]).len();
     for _ in 0..rng.pick(&[0, 1, 5, 20]) {
@@ -102,7 +106,7 @@ pub fn sheet_bytes(rng: &mut Rng) -> Vec<u8> {
         0 => text.truncate(rng.below(text.len() + 1)),
         1 => text.truncate(text.len() - 1),
         2 => text.push(b'\n'),
-        3 => text.resize(rng.pick(&[INPUT_BYTES, INPUT_BYTES + 1]), b'\n'),
+        3 => text.resize(rng.pick(&[MAX_SHEET, MAX_SHEET + 1]), b'\n'),
         _ => {}
     }
     text

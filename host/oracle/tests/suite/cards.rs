@@ -2,7 +2,7 @@
 
 use crate::helpers::{card, listing, task, view};
 use oracle::calls::{choose, interval_count, place, release};
-use oracle::choice::weigh;
+use oracle::choice::score;
 use oracle::{Book, Position, Task};
 
 #[test]
@@ -36,8 +36,8 @@ fn k3_mixed_task() {
         bottom: 4,
     };
     let task = Task::from_bytes(&mixed()).unwrap();
-    let weight = weigh(book.device(), &book.free_cells(), &task, at).unwrap();
-    assert_eq!((weight.n, weight.s), (5, 30));
+    let score = score(book.device(), &book.free_cells(), &task, at).unwrap();
+    assert_eq!((score.pieces, score.stretch), (5, 30));
 }
 
 #[test]

@@ -5,7 +5,7 @@ use crate::helpers::{card, task};
 use crate::positions::{fits_on_half_rows, free_half_rows};
 use oracle::arbitrary;
 use oracle::calls::{choose, place};
-use oracle::choice::{weigh, Weight};
+use oracle::choice::{score, Score};
 use oracle::fit::fitting_positions;
 use oracle::rng::Rng;
 use oracle::{Book, Position, Task};
@@ -20,10 +20,10 @@ fn runs(free: &[bool]) -> Vec<(usize, usize)> {
 }
 
 /// n and s on half rows: runs before, and what is left of those that held a block.
-fn weight_on_half_rows(free: &[Vec<bool>], task: &Task, at: Position) -> Weight {
+fn score_on_half_rows(free: &[Vec<bool>], task: &Task, at: Position) -> Score {
     let mut after = free.to_vec();
     let mut held: Vec<Vec<bool>> = free.iter().map(|rows| vec![false; rows.len()]).collect();
-    let mut s = 0;
+    let mut stretch = 0;
     for block in task.blocks() {
         let column = at.column as usize + usize::from(block.column);
         let start = (at.bottom + i32::from(block.bottom)) as usize;
@@ -33,21 +33,21 @@ fn weight_on_half_rows(free: &[Vec<bool>], task: &Task, at: Position) -> Weight 
             .iter()
             .find(|run| run.0 <= start && end <= run.1)
             .unwrap();
-        s += (high - low) as i64;
+        stretch += (high - low) as i64;
         after[column][start..end].fill(false);
         held[column][low..high].fill(true);
     }
-    let mut n = 0;
+    let mut pieces = 0;
     for (column, rows) in after.iter().enumerate() {
-        n += runs(rows).iter().filter(|run| held[column][run.0]).count() as i64;
+        pieces += runs(rows).iter().filter(|run| held[column][run.0]).count() as i64;
     }
-    Weight { n, s }
+    Score { pieces, stretch }
 }
 
 #[test]
 fn weights_agree_on_half_rows() {
     let mut rng = Rng::new(40);
-    let mut weighed = 0;
+    let mut scored = 0;
     for _ in 0..250 {
         let book = arbitrary::book(&mut rng, 40);
         let free = free_half_rows(&book);
@@ -56,12 +56,12 @@ fn weights_agree_on_half_rows() {
         let fitting = fitting_positions(book.device(), &cells, &task);
         for &at in fitting.iter().take(60) {
             assert!(fits_on_half_rows(&book, &free, &task, at));
-            let weight = weigh(book.device(), &cells, &task, at);
-            assert_eq!(weight, Some(weight_on_half_rows(&free, &task, at)));
-            weighed += 1;
+            let score = score(book.device(), &cells, &task, at);
+            assert_eq!(score, Some(score_on_half_rows(&free, &task, at)));
+            scored += 1;
         }
     }
-    assert!(weighed > 3000, "{weighed}");
+    assert!(scored > 3000, "{scored}");
 }
 
 #[test]
@@ -77,10 +77,10 @@ fn the_chosen_position_is_the_first_of_the_least() {
             assert!(fitting.is_empty());
             continue;
         };
-        let least = weight_on_half_rows(&free, &task, chosen);
+        let least = score_on_half_rows(&free, &task, chosen);
         for &at in &fitting {
-            let weight = weight_on_half_rows(&free, &task, at);
-            let order = (least.n * weight.s).cmp(&(weight.n * least.s));
+            let score = score_on_half_rows(&free, &task, at);
+            let order = (least.pieces * score.stretch).cmp(&(score.pieces * least.stretch));
             assert!(order.is_le(), "a lesser one");
             assert!(order.is_lt() || chosen <= at, "a lower one alike");
         }
@@ -89,12 +89,12 @@ fn the_chosen_position_is_the_first_of_the_least() {
     assert!(not_the_first > 20, "{not_the_first}");
 }
 
-/// The weight of a task at a position of a book.
-fn weight_of(book: &Book, bytes: &[u8], column: u32, bottom: i32) -> (i64, i64) {
+/// The score of a task at a position of a book.
+fn score_of(book: &Book, bytes: &[u8], column: u32, bottom: i32) -> (i64, i64) {
     let task = Task::from_bytes(bytes).unwrap();
     let at = Position { column, bottom };
-    let weight = weigh(book.device(), &book.free_cells(), &task, at).unwrap();
-    (weight.n, weight.s)
+    let score = score(book.device(), &book.free_cells(), &task, at).unwrap();
+    (score.pieces, score.stretch)
 }
 
 #[test]
@@ -102,9 +102,9 @@ fn two_blocks_in_one_interval() {
     // The rest of the interval is counted once, its height once for each block.
     let book = Book::new(10, &[0]).unwrap();
     let apart = task(&[(0, 'C', 0, 2), (0, 'C', 4, 6)]);
-    assert_eq!(weight_of(&book, &apart, 0, 0), (2, 40));
-    assert_eq!(weight_of(&book, &apart, 0, 2), (3, 40));
-    assert_eq!(weight_of(&book, &apart, 0, 14), (2, 40));
+    assert_eq!(score_of(&book, &apart, 0, 0), (2, 40));
+    assert_eq!(score_of(&book, &apart, 0, 2), (3, 40));
+    assert_eq!(score_of(&book, &apart, 0, 14), (2, 40));
 }
 
 #[test]
@@ -112,10 +112,10 @@ fn a_held_interval_is_no_remaining_one() {
     // Column 0 is split by a held cell; only the part that holds the block counts.
     let mut book = Book::new(10, &[0]).unwrap();
     book.place(&task(&[(0, 'C', 0, 2)]), 1, 0, 6).unwrap();
-    assert_eq!(weight_of(&book, &task(&[(0, 'C', 0, 2)]), 0, 2), (2, 6));
-    assert_eq!(weight_of(&book, &task(&[(0, 'C', 0, 2)]), 0, 0), (1, 6));
-    assert_eq!(weight_of(&book, &task(&[(0, 'C', 0, 6)]), 0, 0), (0, 6));
-    assert_eq!(weight_of(&book, &task(&[(0, 'C', 0, 2)]), 0, 8), (1, 12));
+    assert_eq!(score_of(&book, &task(&[(0, 'C', 0, 2)]), 0, 2), (2, 6));
+    assert_eq!(score_of(&book, &task(&[(0, 'C', 0, 2)]), 0, 0), (1, 6));
+    assert_eq!(score_of(&book, &task(&[(0, 'C', 0, 6)]), 0, 0), (0, 6));
+    assert_eq!(score_of(&book, &task(&[(0, 'C', 0, 2)]), 0, 8), (1, 12));
 }
 
 #[test]

@@ -26,7 +26,7 @@ fn one_byte_anywhere() {
     for _ in 0..12 {
         let book = arbitrary::book(&mut rng, 60);
         let mut record = record_of(&book);
-        for at in 0..RECORD_BYTES {
+        for at in 0..RECORD_SIZE {
             let old = record[at];
             record[at] ^= rng.between(1, 255) as u8;
             still_sound += usize::from(judge(&book, &record));
@@ -42,7 +42,7 @@ fn every_value_of_the_bytes_in_use() {
     for _ in 0..6 {
         let book = arbitrary::book(&mut rng, 12);
         let mut record = record_of(&book);
-        let head = (0..KINDS).chain([KINDS, KINDS + 1, COUNTS, COUNTS + 1]);
+        let head = (0..KINDS_AT).chain([KINDS_AT, KINDS_AT + 1, COUNTS_AT, COUNTS_AT + 1]);
         let intervals = column_part(0).take(12);
         let entry = entry_part(0).take(30);
         for at in head.chain(intervals).chain(entry) {

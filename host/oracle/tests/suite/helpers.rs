@@ -2,8 +2,8 @@
 
 use oracle::calls;
 use oracle::device::Kind;
-use oracle::layout::RECORD_BYTES;
-use oracle::listing::{read_ranges, OUTPUT_BYTES};
+use oracle::layout::RECORD_SIZE;
+use oracle::listing::{read_ranges, LIST_ROOM};
 use oracle::task::{bytes_of, Block};
 
 /// A task's bytes from column, kind letter, bottom and top of each block.
@@ -27,14 +27,14 @@ pub fn kinds(letters: &str) -> Vec<u8> {
 /// The record of a new device.
 pub fn card(rows: u32, letters: &str) -> Vec<u8> {
     // Filled with something, so that new is seen to write every byte.
-    let mut record = vec![0xA5; RECORD_BYTES];
+    let mut record = vec![0xA5; RECORD_SIZE];
     assert_eq!(calls::new(&mut record, rows, &kinds(letters)), 0);
     record
 }
 
 /// The listing of a task as column, step, first and last, or the refusal.
 pub fn listing(record: &[u8], task: &[u8]) -> Result<Vec<(u32, i32, i32, i32)>, i32> {
-    let mut output = vec![0x5A; OUTPUT_BYTES];
+    let mut output = vec![0x5A; LIST_ROOM];
     let answer = calls::list(record, task, &mut output);
     let Ok(count) = usize::try_from(answer) else {
         assert!(output.iter().all(|&byte| byte == 0x5A));
@@ -50,7 +50,7 @@ pub fn listing(record: &[u8], task: &[u8]) -> Result<Vec<(u32, i32, i32, i32)>, 
 
 /// A column's intervals through the view, as bottom and top.
 pub fn view(record: &[u8], column: u32) -> Vec<(u16, u16)> {
-    let part = calls::intervals(record, column);
+    let part = calls::view(record, column);
     let pair = |b: &[u8]| {
         let bottom = u16::from_le_bytes([b[0], b[1]]);
         (bottom, u16::from_le_bytes([b[2], b[3]]))

@@ -12,7 +12,7 @@ use oracle::{Book, Device};
 
 /// A new record of a device.
 fn new_record(device: &Device) -> Vec<u8> {
-    let mut record = vec![1; RECORD_BYTES];
+    let mut record = vec![1; RECORD_SIZE];
     let answer = calls::new(&mut record, device.rows(), &device.kind_bytes());
     assert_eq!(answer, 0);
     record

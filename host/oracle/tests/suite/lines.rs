@@ -1,7 +1,7 @@
 //! The line reader: numbers, fields and calls.
 
 use oracle::arbitrary;
-use oracle::line::{lines, read_call, read_device, LineCall};
+use oracle::line::{device_line, lines, sheet_line, SheetCall};
 use oracle::rng::Rng;
 use oracle::task::Block;
 use oracle::{Kind, Refusal};
@@ -9,8 +9,8 @@ use oracle::{Kind, Refusal};
 /// A place line's bottom, read.
 fn bottom(text: &str) -> Result<i16, Refusal> {
     let line = format!("P 1 0 - {text} 0");
-    match read_call(line.as_bytes())? {
-        LineCall::Place { bottom, .. } => Ok(bottom),
+    match sheet_line(line.as_bytes())? {
+        SheetCall::PlaceDraft { bottom, .. } => Ok(bottom),
         other => panic!("{other:?}"),
     }
 }
@@ -55,7 +55,7 @@ fn numbers() {
 
 #[test]
 fn ranges_of_the_fields() {
-    let read = |line: &str| read_call(line.as_bytes());
+    let read = |line: &str| sheet_line(line.as_bytes());
     assert!(read("P 65535 255 - 0 0").is_ok());
     assert!(read("P 65536 255 - 0 0").is_err());
     assert!(read("P 65535 256 - 0 0").is_err());
@@ -67,9 +67,9 @@ fn ranges_of_the_fields() {
     assert!(read("B 0 256 D -32768 32767").is_err());
     assert!(read("B 0 255 D -32769 32767").is_err());
     assert!(read("B 0 255 D -32768 32768").is_err());
-    assert!(read_device(b"65535 C").is_ok());
-    assert!(read_device(b"65536 C").is_err());
-    assert!(read_device(b"-1 C").is_err());
+    assert!(device_line(b"65535 C").is_ok());
+    assert!(device_line(b"65536 C").is_err());
+    assert!(device_line(b"-1 C").is_err());
 }
 
 #[test]
@@ -80,18 +80,18 @@ fn calls_by_hand() {
         bottom: -2,
         top: 3,
     };
-    assert_eq!(read_call(b"B 0 1 B -2 3"), Ok(LineCall::Block(block)));
-    assert_eq!(read_call(b"N 0 0 - 0 0"), Ok(LineCall::Empty));
-    assert_eq!(read_call(b"L 0 0 - 0 0"), Ok(LineCall::List));
-    assert_eq!(read_call(b"C 0 0 - 0 0"), Ok(LineCall::Choose));
-    let place = LineCall::Place {
-        number: 7,
+    assert_eq!(sheet_line(b"B 0 1 B -2 3"), Ok(SheetCall::AddBlock(block)));
+    assert_eq!(sheet_line(b"N 0 0 - 0 0"), Ok(SheetCall::EmptyDraft));
+    assert_eq!(sheet_line(b"L 0 0 - 0 0"), Ok(SheetCall::ListDraft));
+    assert_eq!(sheet_line(b"C 0 0 - 0 0"), Ok(SheetCall::ChooseDraft));
+    let place = SheetCall::PlaceDraft {
+        task: 7,
         column: 2,
         bottom: -4,
     };
-    assert_eq!(read_call(b"P 7 2 - -4 0"), Ok(place));
-    let release = LineCall::Release { number: 7 };
-    assert_eq!(read_call(b"R 7 0 - 0 0"), Ok(release));
+    assert_eq!(sheet_line(b"P 7 2 - -4 0"), Ok(place));
+    let release = SheetCall::ReleaseTask { task: 7 };
+    assert_eq!(sheet_line(b"R 7 0 - 0 0"), Ok(release));
 }
 
 #[test]
@@ -127,7 +127,7 @@ fn malformed_calls() {
     ];
     for text in malformed {
         assert_eq!(
-            read_call(text.as_bytes()),
+            sheet_line(text.as_bytes()),
             Err(Refusal::MalformedLine),
             "{text:?}"
         );
@@ -140,12 +140,12 @@ fn malformed_devices() {
         "", "5", "5 ", " C", "5 C C", "5  C", "5 CX", "5 c", "05 C", "5 C\r", "5 C ",
     ] {
         assert_eq!(
-            read_device(text.as_bytes()),
+            device_line(text.as_bytes()),
             Err(Refusal::MalformedLine),
             "{text:?}"
         );
     }
-    let device = read_device(b"0 CBD").unwrap();
+    let device = device_line(b"0 CBD").unwrap();
     assert_eq!((device.rows, device.kinds), (0, vec![0, 1, 2]));
 }
 
@@ -164,8 +164,8 @@ fn written_calls_are_read_back() {
     let mut rng = Rng::new(50);
     for _ in 0..100 {
         let device = arbitrary::device(&mut rng);
-        for call in arbitrary::line_calls(&mut rng, &device, 20) {
-            assert_eq!(read_call(call.to_string().as_bytes()), Ok(call));
+        for call in arbitrary::sheet_calls(&mut rng, &device, 20) {
+            assert_eq!(sheet_line(call.to_string().as_bytes()), Ok(call));
         }
     }
 }

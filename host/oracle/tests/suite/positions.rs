@@ -11,7 +11,7 @@ use oracle::{Book, Refusal, Task};
 pub fn free_half_rows(book: &Book) -> Vec<Vec<bool>> {
     let device = book.device();
     let mut free: Vec<Vec<bool>> = (0..device.columns())
-        .map(|column| vec![true; device.top_of_last_cell(column) as usize])
+        .map(|column| vec![true; device.top(column) as usize])
         .collect();
     for entry in book.running().values() {
         for block in entry.task.blocks() {

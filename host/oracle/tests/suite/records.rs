@@ -20,7 +20,7 @@ fn the_layout_ends_where_it_should() {
     assert_eq!(column_part(3).start, 132 + 256 * 3);
     assert_eq!(column_part(63).end, 16_516);
     assert_eq!(entry_part(0).start, 16_516);
-    assert_eq!(entry_part(63).end, RECORD_BYTES);
+    assert_eq!(entry_part(63).end, RECORD_SIZE);
 }
 
 #[test]
@@ -69,7 +69,7 @@ fn reading_back_gives_the_same_book() {
     for _ in 0..2000 {
         let book = arbitrary::book(&mut rng, 40);
         let record = record_of(&book);
-        assert_eq!(record.len(), RECORD_BYTES);
+        assert_eq!(record.len(), RECORD_SIZE);
         assert_eq!(read(&record).as_ref(), Ok(&book));
     }
 }
@@ -81,7 +81,7 @@ fn new_writes_the_empty_book() {
     for _ in 0..2000 {
         let (rows, kinds) = arbitrary::device_arguments(&mut rng);
         let fill = rng.byte();
-        let mut record = vec![fill; RECORD_BYTES];
+        let mut record = vec![fill; RECORD_SIZE];
         let answer = calls::new(&mut record, rows, &kinds);
         match Book::new(rows, &kinds) {
             Ok(book) => {
@@ -109,7 +109,7 @@ fn records_do_not_depend_on_the_order_of_placements() {
             order.swap(i, rng.below(i + 1));
         }
         let device = book.device();
-        let mut record = vec![9; RECORD_BYTES];
+        let mut record = vec![9; RECORD_SIZE];
         let made = calls::new(&mut record, device.rows(), &device.kind_bytes());
         assert_eq!(made, 0);
         for number in order {

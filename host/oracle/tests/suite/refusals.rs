@@ -3,8 +3,8 @@
 
 use crate::helpers::{card, kinds, task};
 use oracle::calls;
-use oracle::layout::{column_part, COUNTS, ENTRIES, RECORD_BYTES};
-use oracle::listing::OUTPUT_BYTES;
+use oracle::layout::{column_part, COUNTS_AT, ENTRIES_AT, RECORD_SIZE};
+use oracle::listing::LIST_ROOM;
 use oracle::Refusal;
 
 /// All sets of the given faults.
@@ -26,12 +26,12 @@ fn spoil(record: &mut Vec<u8>, faults: &[i32], variant: usize) {
     if faults.contains(&-2) {
         match variant % 3 {
             0 => record[0] = 0,
-            1 => record[RECORD_BYTES - 1] = 1,
-            _ => record[COUNTS] = record[COUNTS].wrapping_add(1),
+            1 => record[RECORD_SIZE - 1] = 1,
+            _ => record[COUNTS_AT] = record[COUNTS_AT].wrapping_add(1),
         }
     }
     if faults.contains(&-1) {
-        record.resize([RECORD_BYTES - 1, RECORD_BYTES + 1, 0][variant % 3], 0);
+        record.resize([RECORD_SIZE - 1, RECORD_SIZE + 1, 0][variant % 3], 0);
     }
 }
 
@@ -74,17 +74,17 @@ fn new_refuses_in_order() {
         (1, vec![0, 1, 2, 3]),
     ];
     for (rows, kinds) in &bad {
-        for length in [RECORD_BYTES, 0, RECORD_BYTES - 1, RECORD_BYTES + 1] {
+        for length in [RECORD_SIZE, 0, RECORD_SIZE - 1, RECORD_SIZE + 1] {
             let mut record = vec![7; length];
-            let expected = if length == RECORD_BYTES { -3 } else { -1 };
+            let expected = if length == RECORD_SIZE { -3 } else { -1 };
             assert_eq!(calls::new(&mut record, *rows, kinds), expected);
             assert!(record.iter().all(|&byte| byte == 7));
         }
     }
     for (rows, kinds) in [(1, vec![2]), (128, vec![0; 64])] {
-        let mut record = vec![7; RECORD_BYTES];
+        let mut record = vec![7; RECORD_SIZE];
         assert_eq!(calls::new(&mut record, rows, &kinds), 0);
-        let mut short = vec![7; RECORD_BYTES - 1];
+        let mut short = vec![7; RECORD_SIZE - 1];
         assert_eq!(calls::new(&mut short, rows, &kinds), -1);
     }
 }
@@ -166,11 +166,11 @@ fn list_and_choose_refuse_in_order() {
             spoil(&mut record, &faults, variant);
             let before = record.clone();
             let task = spoiled_task(&faults, variant / 3);
-            let short = [OUTPUT_BYTES - 1, 6, 0];
+            let short = [LIST_ROOM - 1, 6, 0];
             let length = if faults.contains(&-6) {
                 short[variant % 3]
             } else {
-                OUTPUT_BYTES
+                LIST_ROOM
             };
             let mut output = vec![0xEE; length];
             let answer = calls::list(&record, &task, &mut output);
@@ -198,7 +198,7 @@ fn interval_count_and_view_refuse_in_order() {
             };
             let answer = calls::interval_count(&record, column);
             assert_eq!(answer, nearest(&faults, 1), "{faults:?}");
-            let view = calls::intervals(&record, column);
+            let view = calls::view(&record, column);
             assert_eq!(view.is_empty(), !faults.is_empty());
             if faults.is_empty() {
                 let start = column_part(1).start;
@@ -218,5 +218,5 @@ fn no_argument_is_cut_to_fewer_bits() {
     assert_eq!(calls::place(&mut record, &one, 2, 0, 65_538), -10);
     assert_eq!(calls::place(&mut record, &one, 2, 0, 2 - 65_536), -10);
     assert_eq!(calls::release(&mut record, 65_537), -11);
-    assert_eq!(record[ENTRIES], 1);
+    assert_eq!(record[ENTRIES_AT], 1);
 }

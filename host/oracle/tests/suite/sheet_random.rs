@@ -1,41 +1,41 @@
 //! Random sheets, against the same calls made on the book alone.
 
-use oracle::arbitrary::{device, line_calls, sheet_bytes, text_of};
-use oracle::line::LineCall;
-use oracle::listing::{read_ranges, OUTPUT_BYTES};
+use oracle::arbitrary::{device, sheet_bytes, sheet_calls, text_of};
+use oracle::line::SheetCall;
+use oracle::listing::{read_ranges, LIST_ROOM};
 use oracle::rng::Rng;
-use oracle::sheet::{sheet, INPUT_BYTES, OUTPUT_NAMES};
-use oracle::task::BLOCK_BYTES;
+use oracle::sheet::{sheet, MAX_SHEET, OUTPUT_NAMES};
+use oracle::task::BLOCK_SIZE;
 use oracle::{Book, Refusal};
 
 /// What one call prints: its answer, then zeros or ranges.
-fn rows(book: &mut Book, draft: &mut Vec<u8>, call: LineCall) -> Vec<String> {
+fn rows(book: &mut Book, draft: &mut Vec<u8>, call: SheetCall) -> Vec<String> {
     let plain = |answer: Result<i32, Refusal>| {
         let number = answer.unwrap_or_else(Refusal::number);
         vec![format!("{number} 0 0 0 0")]
     };
     match call {
-        LineCall::Block(_) if draft.len() == 32 * BLOCK_BYTES => plain(Err(Refusal::TaskLength)),
-        LineCall::Block(block) => {
+        SheetCall::AddBlock(_) if draft.len() == 32 * BLOCK_SIZE => plain(Err(Refusal::TaskLength)),
+        SheetCall::AddBlock(block) => {
             draft.extend(block.to_bytes());
             vec![]
         }
-        LineCall::Empty => {
+        SheetCall::EmptyDraft => {
             draft.clear();
             vec![]
         }
-        LineCall::Choose => plain(book.choose(draft).map(|at| at.answer())),
-        LineCall::Release { number } => plain(book.release(number.into()).map(|()| 0)),
-        LineCall::Place {
-            number,
+        SheetCall::ChooseDraft => plain(book.choose(draft).map(|at| at.answer())),
+        SheetCall::ReleaseTask { task } => plain(book.release(task.into()).map(|()| 0)),
+        SheetCall::PlaceDraft {
+            task,
             column,
             bottom,
         } => {
-            let placed = book.place(draft, number.into(), column.into(), bottom.into());
+            let placed = book.place(draft, task.into(), column.into(), bottom.into());
             plain(placed.map(|()| 0))
         }
-        LineCall::List => {
-            let mut output = vec![0; OUTPUT_BYTES];
+        SheetCall::ListDraft => {
+            let mut output = vec![0; LIST_ROOM];
             match book.list(draft, &mut output) {
                 Err(refusal) => plain(Err(refusal)),
                 Ok(count) => read_ranges(&output, count)
@@ -52,8 +52,8 @@ fn a_sheet_gives_what_the_book_gives() {
     let mut rng = Rng::new(60);
     for _ in 0..300 {
         let device = device(&mut rng);
-        let mut calls = line_calls(&mut rng, &device, 40);
-        while text_of(&device, &calls).len() > INPUT_BYTES {
+        let mut calls = sheet_calls(&mut rng, &device, 40);
+        while text_of(&device, &calls).len() > MAX_SHEET {
             calls.truncate(calls.len() / 2);
         }
         let mut expected = OUTPUT_NAMES.to_string();

@@ -1,7 +1,7 @@
 //! The sheet: document 01's example byte for byte, and its rules one by one,
 //! with the readings of the open points 1 to 17.
 
-use oracle::sheet::{sheet, INPUT_BYTES, OUTPUT_NAMES};
+use oracle::sheet::{sheet, MAX_SHEET, OUTPUT_NAMES};
 
 const EXAMPLE: &str = "rows kinds\n5 CCB\ncall task column kind bottom top\nB 0 0 C 0 2\n\
 B 0 1 C -2 2\nB 0 2 B 1 6\nL 0 0 - 0 0\nP 7 0 - 4 0\nL 0 0 - 0 0\nN 0 0 - 0 0\nB 0 0 C 0 4\n\
@@ -253,13 +253,13 @@ fn p15_long_lines() {
 #[test]
 fn p16_input_over_the_limit() {
     let mut input = EXAMPLE.as_bytes().to_vec();
-    input.resize(INPUT_BYTES, b'x');
+    input.resize(MAX_SHEET, b'x');
     let expected = format!("{EXAMPLE_OUTPUT}16 -12 0 0 0 0\n");
     assert_eq!(sheet(&input), expected.as_bytes());
     input.push(b'\n');
     assert_eq!(whole(&input), "0 -12 0 0 0 0\n");
-    assert_eq!(whole(&vec![b'\n'; INPUT_BYTES + 1]), "0 -12 0 0 0 0\n");
-    assert_eq!(whole(&vec![b'\n'; INPUT_BYTES]), "1 -12 0 0 0 0\n");
+    assert_eq!(whole(&vec![b'\n'; MAX_SHEET + 1]), "0 -12 0 0 0 0\n");
+    assert_eq!(whole(&vec![b'\n'; MAX_SHEET]), "1 -12 0 0 0 0\n");
 }
 
 #[test]

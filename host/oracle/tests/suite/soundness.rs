@@ -39,45 +39,48 @@ fn length() {
 
 #[test]
 fn limits() {
-    assert_eq!(after_one(ROWS, &[0, 0]), Some(Unsound::Rows));
-    assert_eq!(after_one(ROWS, &[129, 0]), Some(Unsound::Rows));
-    assert_eq!(after_one(ROWS, &[5, 1]), Some(Unsound::Rows));
-    assert_eq!(after_one(COLUMNS, &[0]), Some(Unsound::Columns));
-    assert_eq!(after_one(COLUMNS, &[65]), Some(Unsound::Columns));
-    assert_eq!(after_one(KINDS, &[3]), Some(Unsound::Kind));
-    assert_eq!(after_one(RUNNING, &[65]), Some(Unsound::RunningCount));
-    assert_eq!(after_one(COUNTS, &[65]), Some(Unsound::IntervalCount));
-    assert_eq!(after_one(COUNTS + 9, &[65]), Some(Unsound::IntervalCount));
-    let blocks = ENTRIES + ENTRY_BLOCK_COUNT;
+    assert_eq!(after_one(ROWS_AT, &[0, 0]), Some(Unsound::Rows));
+    assert_eq!(after_one(ROWS_AT, &[129, 0]), Some(Unsound::Rows));
+    assert_eq!(after_one(ROWS_AT, &[5, 1]), Some(Unsound::Rows));
+    assert_eq!(after_one(COLUMNS_AT, &[0]), Some(Unsound::Columns));
+    assert_eq!(after_one(COLUMNS_AT, &[65]), Some(Unsound::Columns));
+    assert_eq!(after_one(KINDS_AT, &[3]), Some(Unsound::Kind));
+    assert_eq!(after_one(RUNNING_AT, &[65]), Some(Unsound::RunningCount));
+    assert_eq!(after_one(COUNTS_AT, &[65]), Some(Unsound::IntervalCount));
+    assert_eq!(
+        after_one(COUNTS_AT + 9, &[65]),
+        Some(Unsound::IntervalCount)
+    );
+    let blocks = ENTRIES_AT + ENTRY_COUNT_AT;
     assert_eq!(after_one(blocks, &[0]), Some(Unsound::BlockCount));
     assert_eq!(after_one(blocks, &[33]), Some(Unsound::BlockCount));
 }
 
 #[test]
 fn numbers() {
-    assert_eq!(after_one(ENTRIES, &[0, 0]), Some(Unsound::NumberZero));
-    assert_eq!(after_one(ENTRIES, &[9, 0]), Some(Unsound::NumbersRise));
-    assert_eq!(after_one(ENTRIES, &[10, 0]), Some(Unsound::NumbersRise));
-    assert_eq!(after_one(ENTRIES, &[8, 0]), None);
-    assert_eq!(after_one(ENTRIES + 2 * ENTRY_BYTES, &[255, 255]), None);
+    assert_eq!(after_one(ENTRIES_AT, &[0, 0]), Some(Unsound::NumberZero));
+    assert_eq!(after_one(ENTRIES_AT, &[9, 0]), Some(Unsound::NumbersRise));
+    assert_eq!(after_one(ENTRIES_AT, &[10, 0]), Some(Unsound::NumbersRise));
+    assert_eq!(after_one(ENTRIES_AT, &[8, 0]), None);
+    assert_eq!(after_one(ENTRIES_AT + 2 * ENTRY_SIZE, &[255, 255]), None);
     // One entry more than there is: its number is 0.
-    assert_eq!(after_one(RUNNING, &[4]), Some(Unsound::NumberZero));
+    assert_eq!(after_one(RUNNING_AT, &[4]), Some(Unsound::NumberZero));
 }
 
 #[test]
 fn tasks() {
-    let block = ENTRIES + ENTRY_BLOCKS;
+    let block = ENTRIES_AT + BLOCKS_AT;
     assert_eq!(after_one(block, &[1]), Some(Unsound::NotWellFormed));
     assert_eq!(after_one(block + 1, &[3]), Some(Unsound::NotWellFormed));
     assert_eq!(after_one(block + 4, &[3]), Some(Unsound::NotWellFormed));
-    let count = ENTRIES + ENTRY_BLOCK_COUNT;
+    let count = ENTRIES_AT + ENTRY_COUNT_AT;
     assert_eq!(after_one(count, &[2]), Some(Unsound::NotWellFormed));
 }
 
 #[test]
 fn fits_on_the_empty_device() {
-    let column = ENTRIES + ENTRY_COLUMN;
-    let bottom = ENTRIES + ENTRY_BOTTOM;
+    let column = ENTRIES_AT + ENTRY_COLUMN_AT;
+    let bottom = ENTRIES_AT + ENTRY_BOTTOM_AT;
     assert_eq!(after_one(column, &[1]), Some(Unsound::Misfit));
     assert_eq!(after_one(column, &[2]), Some(Unsound::Misfit));
     assert_eq!(after_one(column, &[255]), Some(Unsound::Misfit));
@@ -89,9 +92,9 @@ fn fits_on_the_empty_device() {
 
 #[test]
 fn no_shared_cell() {
-    let bottom = ENTRIES + ENTRY_BOTTOM;
+    let bottom = ENTRIES_AT + ENTRY_BOTTOM_AT;
     assert_eq!(after_one(bottom, &[4, 0]), Some(Unsound::SharedCell));
-    let top = ENTRIES + ENTRY_BLOCKS + 4;
+    let top = ENTRIES_AT + BLOCKS_AT + 4;
     assert_eq!(after_one(top, &[4, 0]), Some(Unsound::SharedCell));
 }
 
@@ -123,39 +126,39 @@ fn intervals() {
     }
     // One split in two; one left out; one too many.
     let split = [0, 0, 2, 0, 6, 0, 8, 0, 8, 0, 10, 0];
-    let changes: [(usize, &[u8]); 2] = [(COUNTS, &[3]), (part, &split)];
+    let changes: [(usize, &[u8]); 2] = [(COUNTS_AT, &[3]), (part, &split)];
     assert_eq!(after(&changes), Some(Unsound::Intervals));
-    assert_eq!(after_one(COUNTS, &[1]), Some(Unsound::Intervals));
-    let changes: [(usize, &[u8]); 2] = [(COUNTS, &[1]), (part + 4, &[0; 4])];
+    assert_eq!(after_one(COUNTS_AT, &[1]), Some(Unsound::Intervals));
+    let changes: [(usize, &[u8]); 2] = [(COUNTS_AT, &[1]), (part + 4, &[0; 4])];
     assert_eq!(after(&changes), Some(Unsound::Intervals));
-    assert_eq!(after_one(COUNTS, &[3]), Some(Unsound::Intervals));
+    assert_eq!(after_one(COUNTS_AT, &[3]), Some(Unsound::Intervals));
     // A device of another height has other intervals.
-    assert_eq!(after_one(ROWS, &[6]), Some(Unsound::Intervals));
-    assert_eq!(after_one(COLUMNS, &[3]), Some(Unsound::Intervals));
+    assert_eq!(after_one(ROWS_AT, &[6]), Some(Unsound::Intervals));
+    assert_eq!(after_one(COLUMNS_AT, &[3]), Some(Unsound::Intervals));
 }
 
 #[test]
 fn unused_bytes() {
     let unused = [
-        KINDS + 2,
-        KINDS + 63,
-        COUNTS + 2,
-        COUNTS + 63,
+        KINDS_AT + 2,
+        KINDS_AT + 63,
+        COUNTS_AT + 2,
+        COUNTS_AT + 63,
         column_part(0).start + 8,
         column_part(0).end - 1,
         column_part(2).start,
         column_part(63).end - 1,
-        ENTRIES + ENTRY_BLOCKS + 6,
-        ENTRIES + ENTRY_BYTES - 1,
-        ENTRIES + 3 * ENTRY_BYTES,
-        ENTRIES + 3 * ENTRY_BYTES + ENTRY_BLOCK_COUNT,
-        RECORD_BYTES - 1,
+        ENTRIES_AT + BLOCKS_AT + 6,
+        ENTRIES_AT + ENTRY_SIZE - 1,
+        ENTRIES_AT + 3 * ENTRY_SIZE,
+        ENTRIES_AT + 3 * ENTRY_SIZE + ENTRY_COUNT_AT,
+        RECORD_SIZE - 1,
     ];
     for at in unused {
         assert_eq!(after_one(at, &[1]), Some(Unsound::Unused), "{at}");
     }
     // One column less: its kind and intervals are then unused, and task 12 stands nowhere.
-    assert_eq!(after_one(COLUMNS, &[1]), Some(Unsound::Misfit));
+    assert_eq!(after_one(COLUMNS_AT, &[1]), Some(Unsound::Misfit));
     // One task less: its cells are then free, and not listed.
-    assert_eq!(after_one(RUNNING, &[2]), Some(Unsound::Intervals));
+    assert_eq!(after_one(RUNNING_AT, &[2]), Some(Unsound::Intervals));
 }
