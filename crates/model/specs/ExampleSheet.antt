@@ -1,6 +1,5 @@
 -- Document 01's example sheet: the program's output, computed from the definitions. Assumes nothing.
 use mathlib.Core.Path.{_≡_, refl}
-use mathlib.Core.List.{_++_}
 use Rattle.runs.specs.Runs.{runs, push}
 use Rattle.runs.specs.Intervals.{intervals as maximal-runs}
 use Rattle.model.specs.Bounded.{all-below, any-below, sum-below, join-below, all-in, any-in, sum-in, join-in}

@@ -1,5 +1,5 @@
 -- Document 01, "The sheet": the program, from its input to its output, by the book. Assumes nothing.
-use Prim.Native.Nat.{ℕ, zero, suc, _+_}
+use Prim.Native.Nat.{ℕ, suc, _+_}
 use Prim.Native.Char.{code}
 use mathlib.Core.Bool.{Bool, cond, true, false, _&&_}
 use mathlib.Core.Option.{Option, none, some}
@@ -16,7 +16,7 @@ use Rattle.model.specs.Tasks.{blocks}
 use Rattle.model.specs.Book.{Book}
 use Rattle.model.specs.Listing.{Range, ranges}
 use Rattle.model.specs.Record.{bytes16}
-use Rattle.model.specs.Calls.{Call, list, choose, place, release, Outcome, on-book}
+use Rattle.model.specs.Calls.{list, choose, place, release, Outcome, on-book}
 use Rattle.model.specs.Sheet.{SheetCall, add-block, empty-draft, list-draft, choose-draft, place-draft, release-task, text, sheet-line, device-line, first-names, second-names, output-names, output-line}
 
 -- what the program keeps between lines: the card's device and book, and the draft task's bytes

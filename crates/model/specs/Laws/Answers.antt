@@ -6,7 +6,7 @@ use mathlib.Core.Bool.{Bool, true, false, cond}
 use mathlib.Core.Option.{Option, none, some}
 use mathlib.Core.List.{List, [], _∷_, map}
 use native.Mathlib.Omega.{arith}
-use lib.IntN.{ℤ, negsuc}
+use lib.IntN.{negsuc}
 use Rattle.model.specs.Bounded.{In}
 use Rattle.model.specs.Columns.{Device}
 use Rattle.model.specs.Book.{Book}

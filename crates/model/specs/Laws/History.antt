@@ -13,14 +13,13 @@ use lib.IntN.{ℤ, pos, negℤ}
 use lib.ListN.{length}
 use borrow.Author.Tests.{not-false}
 use Rattle.model.specs.Limits.{max-running, record-size, list-room}
-use Rattle.model.specs.Bounded.{all-in, join-in}
+use Rattle.model.specs.Bounded.{all-in}
 use Rattle.model.specs.Columns.{Device, device-ok}
 use Rattle.model.specs.Tasks.{sized, well-formed}
-use Rattle.model.specs.Book.{Running, Book, holds-cell}
-use Rattle.model.specs.Listing.{ranges, position, named, fitting}
+use Rattle.model.specs.Book.{Running, Book}
 use Rattle.model.specs.Record.{record-of}
 use Rattle.model.specs.Sound.{number-ok, rising, task-ok, apart, book-ok, within}
-use Rattle.model.specs.Calls.{Call, list, choose, Outcome, range-bytes, over, refused, no-position, unless, on-book}
+use Rattle.model.specs.Calls.{Call, list, choose, Outcome, refused, no-position, unless, on-book}
 use Rattle.model.specs.OnRecord.{written, on-record, new}
 use Rattle.model.specs.History.{Trace, trace, on-records, book-of-history}
 use Rattle.model.specs.Demand3.{AllOnCells, device, Listed, History}

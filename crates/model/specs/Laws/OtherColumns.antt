@@ -9,7 +9,7 @@ use Rattle.runs.specs.Laws.Intervals.{intervals-free, free-intervals}
 use Rattle.model.specs.Limits.{max-columns, column-size}
 use Rattle.model.specs.Columns.{Device, top}
 use Rattle.model.specs.Tasks.{blocks, block}
-use Rattle.model.specs.Book.{Running, Book, placed, covers, covered, standing, free, intervals}
+use Rattle.model.specs.Book.{Running, Book, placed, covers, covered, free, intervals}
 use Rattle.model.specs.Record.{part, column-at, column-part, device-of, book-of}
 use Rattle.model.specs.Calls.{place, running, insert, done}
 use Rattle.model.specs.OnRecord.{on-record}

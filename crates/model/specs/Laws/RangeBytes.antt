@@ -5,10 +5,10 @@ use mathlib.Core.Logic.{inl, inr}
 use mathlib.Core.Bool.{true}
 use mathlib.Core.List.{List, [], _∷_, _++_, map}
 use native.Mathlib.Omega.{arith}
-use lib.ListN.{length, getD, drop}
+use lib.ListN.{length}
 use Rattle.runs.specs.Runs.{Run, From, Mem, runs}
 use Rattle.runs.specs.Laws.Runs.{runs-lists}
-use Rattle.model.specs.Limits.{words, range-size}
+use Rattle.model.specs.Limits.{words}
 use Rattle.model.specs.Bounded.{join-below, join-in}
 use Rattle.model.specs.Columns.{Device, columns, half-rows}
 use Rattle.model.specs.Tasks.{word, sized, step}

@@ -18,7 +18,6 @@ use Rattle.model.specs.Laws.Tasks.{sized-to, solid-block}
 use Rattle.model.specs.Laws.Fits.{Fitting, fitting-to, fitting-of, fits-to, fits-of, fits-below}
 use Rattle.model.specs.Laws.Limits.{limits-to}
 use Rattle.model.specs.Laws.Ends.{fits-held, held-fits}
-use Rattle.model.specs.Laws.Parts.{getD-list}
 use Rattle.model.specs.Laws.Clauses.{clauses-to}
 use Rattle.model.specs.Laws.Sound.{columns-said, kind-read, listed-said, sound-length, sound-within}
 use Rattle.column.specs.Part.{Part, listed-in, holding}
