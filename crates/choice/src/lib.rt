@@ -6,6 +6,7 @@ ghost use Prim.Native.Nat.{suc, _≤_, _<_};
 ghost use mathlib.Core.Bool.{true};
 ghost use lib.Dec.{ltb};
 ghost use Rattle.runs.specs.Intervals.{interval, Holds};
+ghost use Rattle.runs.specs.Meet.{Step};
 ghost use Rattle.model.specs.Limits.{max-columns, words};
 ghost use Rattle.model.specs.Columns.{half-rows};
 ghost use Rattle.model.specs.Tasks.{blocks, step as step-of};
@@ -176,7 +177,7 @@ fn consider(best: Best, column: u32, bottom: u32, pieces: u32, stretch: u32) -> 
 
 // How far up the next bottom to score is: the room, rounded up to whole steps, and one step at least.
 fn rise(room: u32, step: u32) -> u32
-    requires { ⌜ (room < words) × (1 ≤ step) × (step < 256) ⌝ }
+    requires { ⌜ (room < words) × Step step ⌝ }
     ensures { λ r. ⌜ Rises room step r ⌝ }
 {
     if room == 0 {

@@ -1,4 +1,4 @@
-// One column's intervals: its 256-byte part, lent out of the record's middle, is cut, joined and searched.
+// One column's intervals: its part, lent out of the record's middle, is cut, joined and searched.
 // The part is read from its front, and what it becomes is written into a part of zeros that is copied back.
 ghost use mathlib.Core.Path.{_≡_};
 ghost use mathlib.Core.List.{[], _∷_};

@@ -18,7 +18,7 @@ use Rattle.model.specs.Record.{column-at, listed-intervals}
 use Rattle.model.specs.Sound.{count-of}
 use Rattle.listing.specs.Bottoms.{lift, bottoms}
 
--- a column has at most 64 runs
+-- a column has no more runs than intervals
 abbrev pub max-runs : ℕ
 max-runs = max-intervals
 
@@ -27,7 +27,7 @@ unfoldable pub read : ℕ → List ℕ → List ℕ → List Run
 read zero firsts lasts = []
 read (suc n) firsts lasts = read n firsts lasts ++ (run (getD firsts n 0) (getD lasts n 0) ∷ [])
 
--- two arrays of 64 numbers
+-- two arrays, with room for all runs of a column
 pub record Room (F T : List ℕ) : Type 0 where
   pub firsts : length F ≡ max-runs
   pub lasts : length T ≡ max-runs

@@ -26,9 +26,7 @@ consider-requires : tie.Need-consider-requires Inv-loop μ-loop
 consider-requires c κs = let s = c .score-at .ensures in (c .before .before .before .loop .inv .climbed .small, s .pieces-few, s .stretch-small)
 
 rise-requires : tie.Need-rise-requires Inv-loop μ-loop
-rise-requires c κs =
-    let s = range-step (c .before .before .before .before .before .before .before .pre .1) in
-    (c .before .score-at .ensures .room-small, s .0, omega arith)
+rise-requires c κs = (c .before .score-at .ensures .room-small, range-step (c .before .before .before .before .before .before .before .pre .1))
 
 add-y : tie.Need-add-y Inv-loop μ-loop
 add-y c =

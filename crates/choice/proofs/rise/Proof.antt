@@ -20,10 +20,10 @@ add-result : tie.Need-add-result
 add-result c = omega (arith, div-le-self (c .before .args .room - 1) (c .before .args .step))
 
 mul-result : tie.Need-mul-result
-mul-result c = let r = rise-some (c .before .args .room) (c .before .args .step) (omega arith) (c .before .pre .1) .small in omega arith
+mul-result c = let r = rise-some (c .before .args .room) (c .before .args .step) (omega arith) (c .before .pre .1 .0) .small in omega arith
 
 returns-2 : tie.Need-returns-2
-returns-2 c = rise-some _ _ (omega arith) (c .before .pre .1)
+returns-2 c = rise-some _ _ (omega arith) (c .before .pre .1 .0)
 
 pub rise-spec : {M : Type 1} → statement M
 rise-spec = tie.close (tie.spec returns sub-result div-result add-result mul-result returns-2)

@@ -10,6 +10,7 @@ use lib.Dec.{ltb}
 use borrow.Author.Tests.{lt-ltb, le-ltb}
 use Rattle.runs.specs.Laws.Tests.{lt-or-ge}
 use Rattle.runs.specs.Runs.{Steps}
+use Rattle.runs.specs.Meet.{Step}
 use Rattle.runs.specs.declared.Range.{Range}
 use Rattle.model.specs.Limits.{max-rows}
 use Rattle.model.specs.Columns.{Device}
@@ -71,8 +72,8 @@ rise-some room step l g =
     let m = mul-div-le (room - 1) step in
     record { steps = (room - 1) / step; is = omega arith; inside = inr (omega arith); small = omega arith }
 
--- a step is not 0, nor above 10
-pub range-step : {d : Device} {b : Book} {t : List ℕ} {p : ℕ} {R : Range} → FitsRange d b t p R → (1 ≤ R .step) × (R .step ≤ 10)
+-- the step of a range is not 0, and a byte
+pub range-step : {d : Device} {b : Book} {t : List ℕ} {p : ℕ} {R : Range} → FitsRange d b t p R → Step (R .step)
 range-step {t = t} g = omega (arith, g .step-is, step-two t, step-ten t)
 
 -- so a rise is not 0

@@ -1,9 +1,10 @@
 -- `listing::walk::meet_block` meets its contract: the walk along two lists, by the laws of Laws/Walk. Assumes nothing.
-use Prim.Native.Nat.{_+_, _-_, _≤_, _<_}
+use Prim.Native.Nat.{_+_, _-_, _*_, _≤_, _<_}
 use mathlib.Core.Path.{_≡_, ap₂, _∙_}
 use mathlib.Core.Logic.{inl, inr}
 use native.Mathlib.Omega.{arith}
 use borrow.Author.Tests.{ltb-true, ltb-false}
+use Rattle.model.specs.Limits.{max-rows}
 use Rattle.model.specs.Columns.{height}
 use Rattle.model.specs.Sound.{count-of}
 use Rattle.task.specs.Blocks.{seen}
@@ -30,7 +31,7 @@ given s = s .pre .0
 within : (c : tie.Then2 Inv-loop μ-loop) → c .before .before .before .loop .j < count-of (c .before .before .before .before .before .before .before .before .before .before .args .«record» .now) (c .before .before .before .before .before .before .before .before .before .before .args .c)
 within c = omega (arith, ltb-true (c .before .before .before .loop .j) (c .before .before .before .before .byte .result) (c .if2 .taken), c .before .before .before .before .byte .ensures .is)
 
-ends : (c : tie.After-interval-at Inv-loop μ-loop) → (c .interval-at .result .bottom < c .interval-at .result .top) × (c .interval-at .result .top ≤ 256)
+ends : (c : tie.After-interval-at Inv-loop μ-loop) → (c .interval-at .result .bottom < c .interval-at .result .top) × (c .interval-at .result .top ≤ 2 * max-rows)
 ends c =
     let e = given (c .before .before .before .before .before .before .before .before .before .before .before) .ends (c .before .before .before .before .loop .j) (within (c .before)) in
     (omega (arith, e, c .interval-at .ensures .bottom-is, c .interval-at .ensures .top-is), omega (arith, e, c .interval-at .ensures .top-is))
