@@ -1,27 +1,61 @@
--- `Kind::top`: the height times the cells, which stays on the device. Assumes nothing.
+-- `Kind::top`: each kind's numbers are those of its kind number. Assumes nothing.
 use borrow.Author.Needs.{needs}
-use native.Mathlib.Omega.{arith}
-use Rattle.model.specs.Columns.{top-in}
-use Rattle.model.specs.Kinds.{number-of}
-use Rattle.model.specs.Laws.Columns.{top-in-le}
+use Rattle.model.specs.Columns.{height, cells-in, top-in}
 use Rattle.model.proofs.Kind.top.Statement.{statement}
 use Rattle.model.proofs.Kind.top.Tie as tie
 
-height-requires : tie.Need-height-requires
-height-requires c κs = search needs
-
-cells-requires : tie.Need-cells-requires
-cells-requires c κs = search needs
+enum-told : tie.Need-enum-told
+enum-told c = search needs
 
 mul-result : tie.Need-mul-result
-unfolding top-in
-mul-result c =
-    let x = c .before .before .args in
-    rw (c .before .height .ensures, c .cells .ensures) (record { fits = omega (arith, top-in-le (x .rows) (number-of (x .self))) })
+mul-result c = search needs
+
+mul-result-2 : tie.Need-mul-result-2
+mul-result-2 c = search needs
+
+enum-told-2 : tie.Need-enum-told-2
+enum-told-2 c = search needs
+
+mul-result-3 : tie.Need-mul-result-3
+mul-result-3 c = search needs
+
+mul-result-4 : tie.Need-mul-result-4
+mul-result-4 c = search needs
+
+enum-told-3 : tie.Need-enum-told-3
+enum-told-3 c = search needs
+
+mul-result-5 : tie.Need-mul-result-5
+mul-result-5 c = search needs
+
+mul-result-6 : tie.Need-mul-result-6
+mul-result-6 c = search needs
 
 returns : tie.Need-returns
-unfolding top-in
-returns c = rw (c .before .height .ensures, c .cells .ensures)
+unfolding top-in cells-in height
+returns c = rw (c .enum-told .given .1)
+
+returns-2 : tie.Need-returns-2
+unfolding top-in cells-in height
+returns-2 c = rw (c .enum-told2 .given .1)
+
+returns-3 : tie.Need-returns-3
+unfolding top-in cells-in height
+returns-3 c = rw (c .enum-told3 .given .1)
 
 pub top-spec : {M : Type 1} → statement M
-top-spec = tie.close (tie.spec height-requires cells-requires mul-result returns)
+top-spec =
+    tie.close
+    (tie.spec
+    enum-told
+    mul-result
+    mul-result-2
+    enum-told-2
+    mul-result-3
+    mul-result-4
+    enum-told-3
+    mul-result-5
+    mul-result-6
+    returns
+    returns-2
+    returns-3)
