@@ -35,9 +35,9 @@ pub fn column_intervals(record: &Record, column: usize) -> impl Iterator<Item = 
     intervals(part(record, column), count(record, column))
 }
 
-/// The interval of a column that holds all half rows from low to high.
-pub fn home(record: &Record, column: usize, low: u32, high: u32) -> Option<Interval> {
-    holder(part(record, column), count(record, column), low, high)
+/// The interval of a column that holds all half rows from bottom to top.
+pub fn home(record: &Record, column: usize, bottom: u32, top: u32) -> Option<Interval> {
+    holder(part(record, column), count(record, column), bottom, top)
 }
 
 /// Changes a column's intervals by a routine that answers their new count.
@@ -177,11 +177,11 @@ pub fn is_sound(record: &Record) -> bool {
     }
     let mut scratch = [0; RECORD_SIZE];
     write_device(&mut scratch, rows, kinds);
-    rebuild(record, &mut scratch) && scratch == *record
+    enter_all(record, &mut scratch) && scratch == *record
 }
 
 /// Enters the running tasks of a record into an empty one; answers whether each may be there.
-fn rebuild(record: &Record, scratch: &mut Record) -> bool {
+fn enter_all(record: &Record, scratch: &mut Record) -> bool {
     let mut previous = 0;
     for index in 0..running(record) {
         let part = &record[entry_part(index)];
