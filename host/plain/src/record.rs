@@ -86,11 +86,10 @@ pub fn fits(record: &Record, task: &Task, column: u32, bottom: i32) -> bool {
     let column = column as usize;
     on_columns(record, task, column)
         && task.blocks().iter().all(|block| {
-            let low = bottom + block.bottom();
-            let high = bottom + block.top();
-            low >= 0
-                && (low as u32).is_multiple_of(height(block.kind()))
-                && home(record, column + block.column(), low as u32, high as u32).is_some()
+            let (bottom, top) = (bottom + block.bottom(), bottom + block.top());
+            bottom >= 0
+                && (bottom as u32).is_multiple_of(height(block.kind()))
+                && home(record, column + block.column(), bottom as u32, top as u32).is_some()
         })
 }
 
@@ -137,9 +136,9 @@ pub fn enter(record: &mut Record, index: usize, entry: Entry, task: &Task, bytes
     part[BLOCKS_AT + bytes.len()..].fill(0);
     record[RUNNING_AT] += 1;
     for block in task.blocks() {
-        let low = entry.bottom.wrapping_add_signed(block.bottom());
+        let bottom = entry.bottom.wrapping_add_signed(block.bottom());
         change(record, entry.column + block.column(), |part, count| {
-            cut(part, count, low, low + block.size())
+            cut(part, count, bottom, bottom + block.size())
         });
     }
 }
@@ -153,9 +152,9 @@ pub fn leave(record: &mut Record, index: usize) {
     // A sound record has well-formed tasks only, so none is never met.
     let task = Task::from_bytes(&part[BLOCKS_AT..BLOCKS_AT + bytes]);
     for block in task.iter().flat_map(Task::blocks) {
-        let low = bottom.wrapping_add_signed(block.bottom());
+        let bottom = bottom.wrapping_add_signed(block.bottom());
         change(record, column + block.column(), |part, count| {
-            join(part, count, low, low + block.size())
+            join(part, count, bottom, bottom + block.size())
         });
     }
     let last = running(record) - 1;
