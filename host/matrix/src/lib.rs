@@ -55,21 +55,21 @@ impl Matrix {
         let end = BLOCKS_AT + BLOCK_SIZE * usize::from(entry[ENTRY_COUNT_AT]);
         let task = Task::from_bytes(&entry[BLOCKS_AT..end]);
         for block in task.iter().flat_map(Task::blocks) {
-            let (low, high) = (bottom + block.bottom(), bottom + block.top());
-            self.free[column + block.column()][low as usize..high as usize].fill(false);
+            let (bottom, top) = (bottom + block.bottom(), bottom + block.top());
+            self.free[column + block.column()][bottom as usize..top as usize].fill(false);
         }
     }
 
     /// Whether a block, moved to a position, covers free cells of its kind only.
     fn block_fits(&self, block: &Block, column: usize, bottom: i32) -> bool {
         let column = column + block.column();
-        let (low, high) = (bottom + block.bottom(), bottom + block.top());
+        let (bottom, top) = (bottom + block.bottom(), bottom + block.top());
         column < self.columns
             && self.kinds[column] == block.kind()
-            && low >= 0
-            && high <= self.half_rows
-            && (low as u32).is_multiple_of(height(block.kind()))
-            && self.free[column][low as usize..high as usize]
+            && bottom >= 0
+            && top <= self.half_rows
+            && (bottom as u32).is_multiple_of(height(block.kind()))
+            && self.free[column][bottom as usize..top as usize]
                 .iter()
                 .all(|&free| free)
     }
@@ -81,12 +81,12 @@ impl Matrix {
             .all(|block| self.block_fits(block, column, bottom))
     }
 
-    /// The free run around the half rows from low to high.
-    fn run(&self, column: usize, low: usize, high: usize) -> (usize, usize) {
+    /// The free run around the half rows from bottom to top.
+    fn home(&self, column: usize, bottom: usize, top: usize) -> (usize, usize) {
         let column = &self.free[column];
-        let below = column[..low].iter().rev().take_while(|&&free| free);
-        let above = column[high..].iter().take_while(|&&free| free);
-        (low - below.count(), high + above.count())
+        let below = column[..bottom].iter().rev().take_while(|&&free| free);
+        let above = column[top..].iter().take_while(|&&free| free);
+        (bottom - below.count(), top + above.count())
     }
 
     /// n and s of a fitting position: pieces and stretch.
@@ -95,12 +95,12 @@ impl Matrix {
         let mut previous = None;
         for block in task.blocks() {
             let here = column + block.column();
-            let low = (bottom + block.bottom()) as usize;
-            let high = (bottom + block.top()) as usize;
-            let (start, end) = self.run(here, low, high);
+            let top = (bottom + block.top()) as usize;
+            let bottom = (bottom + block.bottom()) as usize;
+            let (start, end) = self.home(here, bottom, top);
             // The piece between two blocks of one run is the one above the lower block.
             let is_first = previous != Some((here, start));
-            pieces += u32::from(is_first && start < low) + u32::from(high < end);
+            pieces += u32::from(is_first && start < bottom) + u32::from(top < end);
             stretch += (end - start) as u32;
             previous = Some((here, start));
         }

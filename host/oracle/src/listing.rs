@@ -65,12 +65,12 @@ pub fn read_ranges(output: &[u8], count: usize) -> Vec<Range> {
 /// The ranges of a task, by column and then by first, found by trying every position.
 pub fn ranges(device: &Device, free: &CellSet, task: &Task) -> Vec<Range> {
     (0..device.columns() as u32)
-        .flat_map(|column| ranges_in_column(device, free, task, column))
+        .flat_map(|column| column_ranges(device, free, task, column))
         .collect()
 }
 
 /// The ranges in one column: each starts where the bottom one step below does not fit.
-fn ranges_in_column(device: &Device, free: &CellSet, task: &Task, column: u32) -> Vec<Range> {
+fn column_ranges(device: &Device, free: &CellSet, task: &Task, column: u32) -> Vec<Range> {
     let step = task.step() as i32;
     let fitting: Vec<bool> = (0..device.half_rows() as i32)
         .map(|bottom| fits(device, free, task, Position { column, bottom }))

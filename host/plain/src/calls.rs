@@ -36,8 +36,8 @@ pub mod refusal {
 type Answer = Result<i32, i32>;
 
 /// The answer of a call as one number.
-fn number_of(answer: Answer) -> i32 {
-    answer.unwrap_or_else(|refusal| refusal)
+fn answer(result: Answer) -> i32 {
+    result.unwrap_or_else(|refusal| refusal)
 }
 
 /// The bytes as a sound record, or −1 or −2. It is the first test of every call but new.
@@ -79,7 +79,7 @@ pub fn new(record: &mut [u8], rows: u32, kinds: &[u8]) -> i32 {
 
 /// Place: enters the task as running. Answers 0, −1, −2, −4, −5, −7, −8 or −10.
 pub fn place(record: &mut [u8], task: &[u8], number: u32, column: u32, bottom: i32) -> i32 {
-    number_of(try_place(record, task, number, column, bottom))
+    answer(try_place(record, task, number, column, bottom))
 }
 
 fn try_place(record: &mut [u8], bytes: &[u8], number: u32, column: u32, bottom: i32) -> Answer {
@@ -108,7 +108,7 @@ fn try_place(record: &mut [u8], bytes: &[u8], number: u32, column: u32, bottom: 
 
 /// Release: frees the task's cells and removes its entry. Answers 0, −1, −2 or −11.
 pub fn release(record: &mut [u8], number: u32) -> i32 {
-    number_of(try_release(record, number))
+    answer(try_release(record, number))
 }
 
 fn try_release(record: &mut [u8], number: u32) -> Answer {
@@ -121,13 +121,13 @@ fn try_release(record: &mut [u8], number: u32) -> Answer {
 /// List: writes the ranges and answers their number, or −1, −2, −4, −5, −6 or −9.
 pub fn list(record: &[u8], task: &[u8], output: &mut [u8]) -> i32 {
     let listed = checked(record).and_then(|record| search_list(record, task, output));
-    number_of(listed)
+    answer(listed)
 }
 
 /// Choose: answers column × 1,024 + bottom, or −1, −2, −4, −5 or −9.
 pub fn choose(record: &[u8], task: &[u8]) -> i32 {
     let chosen = checked(record).and_then(|record| search_choose(record, task));
-    number_of(chosen)
+    answer(chosen)
 }
 
 /// List on a record that is known to be sound: the search alone, for measurements.
@@ -165,7 +165,7 @@ pub fn search_choose(record: &Record, bytes: &[u8]) -> Answer {
 /// Interval count: answers how many intervals a column has, or −1, −2 or −3.
 pub fn interval_count(record: &[u8], column: u32) -> i32 {
     let counted = counted(record, column).map(|part| part.len() / INTERVAL_SIZE);
-    number_of(counted.map(|count| count as i32))
+    answer(counted.map(|count| count as i32))
 }
 
 /// The view: a column's intervals as a part of the record, empty where interval count refuses.

@@ -79,16 +79,16 @@ fn score(record: &Record, task: &Task, column: usize, bottom: i32) -> Option<Sco
     };
     let mut previous = None;
     for block in task.blocks() {
-        let low = (bottom + block.bottom()) as u32;
-        let high = low + block.size();
+        let bottom = (bottom + block.bottom()) as u32;
+        let top = bottom + block.size();
         let here = column + block.column();
-        let holder = home(record, here, low, high)?;
+        let holder = home(record, here, bottom, top)?;
         // A piece below is counted by the first block of the interval only:
         // between two blocks it is the piece above the lower one.
         let is_first = previous != Some((here, holder.bottom));
-        score.pieces += u32::from(is_first && holder.bottom < low) + u32::from(high < holder.top);
+        score.pieces += u32::from(is_first && holder.bottom < bottom) + u32::from(top < holder.top);
         score.stretch += holder.top - holder.bottom;
-        score.room = score.room.min(holder.top - high);
+        score.room = score.room.min(holder.top - top);
         previous = Some((here, holder.bottom));
     }
     Some(score)

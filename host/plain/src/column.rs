@@ -101,11 +101,11 @@ pub fn join(part: &mut Part, count: usize, bottom: u32, top: u32) -> usize {
     stream.copy_to(part)
 }
 
-/// The interval that holds all half rows from low to high, if one does.
-pub fn holder(part: &Part, count: usize, low: u32, high: u32) -> Option<Interval> {
-    // Intervals rise, so only the first that reaches up to high can hold them.
-    let reaching = intervals(part, count).find(|interval| high <= interval.top)?;
-    (reaching.bottom <= low).then_some(reaching)
+/// The interval that holds all half rows from bottom to top, if one does.
+pub fn holder(part: &Part, count: usize, bottom: u32, top: u32) -> Option<Interval> {
+    // Intervals rise, so only the first that reaches up to the top can hold them.
+    let reaching = intervals(part, count).find(|interval| top <= interval.top)?;
+    (reaching.bottom <= bottom).then_some(reaching)
 }
 
 #[cfg(test)]

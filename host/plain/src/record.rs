@@ -35,9 +35,9 @@ pub fn column_intervals(record: &Record, column: usize) -> impl Iterator<Item = 
     intervals(part(record, column), count(record, column))
 }
 
-/// The interval of a column that holds all half rows from low to high.
-pub fn home(record: &Record, column: usize, low: u32, high: u32) -> Option<Interval> {
-    holder(part(record, column), count(record, column), low, high)
+/// The interval of a column that holds all half rows from bottom to top.
+pub fn home(record: &Record, column: usize, bottom: u32, top: u32) -> Option<Interval> {
+    holder(part(record, column), count(record, column), bottom, top)
 }
 
 /// Changes a column's intervals by a routine that answers their new count.
@@ -86,11 +86,10 @@ pub fn fits(record: &Record, task: &Task, column: u32, bottom: i32) -> bool {
     let column = column as usize;
     on_columns(record, task, column)
         && task.blocks().iter().all(|block| {
-            let low = bottom + block.bottom();
-            let high = bottom + block.top();
-            low >= 0
-                && (low as u32).is_multiple_of(height(block.kind()))
-                && home(record, column + block.column(), low as u32, high as u32).is_some()
+            let (bottom, top) = (bottom + block.bottom(), bottom + block.top());
+            bottom >= 0
+                && (bottom as u32).is_multiple_of(height(block.kind()))
+                && home(record, column + block.column(), bottom as u32, top as u32).is_some()
         })
 }
 
@@ -137,9 +136,9 @@ pub fn enter(record: &mut Record, index: usize, entry: Entry, task: &Task, bytes
     part[BLOCKS_AT + bytes.len()..].fill(0);
     record[RUNNING_AT] += 1;
     for block in task.blocks() {
-        let low = entry.bottom.wrapping_add_signed(block.bottom());
+        let bottom = entry.bottom.wrapping_add_signed(block.bottom());
         change(record, entry.column + block.column(), |part, count| {
-            cut(part, count, low, low + block.size())
+            cut(part, count, bottom, bottom + block.size())
         });
     }
 }
@@ -153,9 +152,9 @@ pub fn leave(record: &mut Record, index: usize) {
     // A sound record has well-formed tasks only, so none is never met.
     let task = Task::from_bytes(&part[BLOCKS_AT..BLOCKS_AT + bytes]);
     for block in task.iter().flat_map(Task::blocks) {
-        let low = bottom.wrapping_add_signed(block.bottom());
+        let bottom = bottom.wrapping_add_signed(block.bottom());
         change(record, column + block.column(), |part, count| {
-            join(part, count, low, low + block.size())
+            join(part, count, bottom, bottom + block.size())
         });
     }
     let last = running(record) - 1;
@@ -177,11 +176,11 @@ pub fn is_sound(record: &Record) -> bool {
     }
     let mut scratch = [0; RECORD_SIZE];
     write_device(&mut scratch, rows, kinds);
-    rebuild(record, &mut scratch) && scratch == *record
+    enter_all(record, &mut scratch) && scratch == *record
 }
 
 /// Enters the running tasks of a record into an empty one; answers whether each may be there.
-fn rebuild(record: &Record, scratch: &mut Record) -> bool {
+fn enter_all(record: &Record, scratch: &mut Record) -> bool {
     let mut previous = 0;
     for index in 0..running(record) {
         let part = &record[entry_part(index)];

@@ -2,7 +2,7 @@
 
 use crate::device::{Device, Kind, MAX_COLUMNS};
 use crate::rng::Rng;
-use crate::task::{Block, Task, MAX_BLOCKS};
+use crate::task::{Block, Task, BLOCK_SIZE, MAX_BLOCKS, REACH};
 
 /// A random device, often small.
 pub fn device(rng: &mut Rng) -> Device {
@@ -106,10 +106,10 @@ pub fn loose_task(rng: &mut Rng, most_blocks: usize) -> Task {
     }];
     let mut column = 0;
     let mut lowest = i64::from(blocks[0].top) + 1;
-    while blocks.len() < wanted && column <= 63 {
+    while blocks.len() < wanted && column < MAX_COLUMNS as i64 {
         let bottom = lowest + rng.between(0, 40);
         let most = rng.pick(&[1, 3, 256]);
-        let room = ((256 - bottom) / kind.height()).min(most);
+        let room = ((REACH - bottom) / kind.height()).min(most);
         if room >= 1 && rng.percent(40) {
             let top = bottom + kind.height() * rng.between(1, room);
             blocks.push(Block {
@@ -122,7 +122,7 @@ pub fn loose_task(rng: &mut Rng, most_blocks: usize) -> Task {
         } else {
             column += rng.between(1, 4);
             kind = rng.pick(&Kind::ALL);
-            lowest = rng.between(-256, 200);
+            lowest = rng.between(-REACH, 200);
         }
     }
     Task::from_blocks(&blocks).expect("the sentences are kept")
@@ -151,7 +151,11 @@ pub fn task_bytes(rng: &mut Rng, device: &Device, most_blocks: usize) -> Vec<u8>
             let at = rng.below(bytes.len());
             bytes[at] = bytes[at].wrapping_add(rng.pick(&[1, 255, 2, 254, 5, 251]));
         }
-        4 => bytes = (0..6 * (1 + rng.below(3))).map(|_| rng.byte()).collect(),
+        4 => {
+            bytes = (0..BLOCK_SIZE * (1 + rng.below(3)))
+                .map(|_| rng.byte())
+                .collect()
+        }
         _ => {}
     }
     bytes
