@@ -17,24 +17,22 @@ ghost use Rattle.model.specs.OnRecord.{on-record, new, interval-count, view};
 ghost use Rattle.listing.specs.Columns.{Given};
 ghost use Rattle.card.specs.Leaves.{Changes, Writes, ChecksRecord, ChecksTask, ChecksPlace, ChecksRelease, ChecksColumn};
 
-// Document 01's table of refusals.
-pub const WRONG_LENGTH: i32 = -1;
+// Document 01's table of refusals; −3 is new's for a malformed device, and the interval count's for a missing column.
+pub const RECORD_LENGTH: i32 = -1;
 
-pub const NOT_SOUND: i32 = -2;
+pub const RECORD_NOT_SOUND: i32 = -2;
 
-pub const BAD_DEVICE: i32 = -3;
+pub const DEVICE_OR_COLUMN: i32 = -3;
 
-pub const NO_COLUMN: i32 = -3;
+pub const TASK_LENGTH: i32 = -4;
 
-pub const BAD_TASK_LENGTH: i32 = -4;
+pub const TASK_NOT_WELL_FORMED: i32 = -5;
 
-pub const MALFORMED_TASK: i32 = -5;
-
-pub const SHORT_OUTPUT: i32 = -6;
+pub const OUTPUT_SHORT: i32 = -6;
 
 pub const BAD_NUMBER: i32 = -7;
 
-pub const CARD_FULL: i32 = -8;
+pub const FULL: i32 = -8;
 
 pub const NO_POSITION: i32 = -9;
 
@@ -53,10 +51,10 @@ fn check_record(record: &[u8]) -> Check
     ensures { λ r. ⌜ ChecksRecord (now («record» .entry)) r ⌝ }
 {
     if record.len() != model::RECORD_SIZE {
-        return Check::Refuse(WRONG_LENGTH);
+        return Check::Refuse(RECORD_LENGTH);
     }
     if !record::sound::sound(record) {
-        return Check::Refuse(NOT_SOUND);
+        return Check::Refuse(RECORD_NOT_SOUND);
     }
     Check::Pass
 }
@@ -70,10 +68,10 @@ fn check_task(record: &[u8], task: &[u8]) -> Check
         return check;
     };
     if !task::sized(task) {
-        return Check::Refuse(BAD_TASK_LENGTH);
+        return Check::Refuse(TASK_LENGTH);
     }
     if !task::well_formed(task) {
-        return Check::Refuse(MALFORMED_TASK);
+        return Check::Refuse(TASK_NOT_WELL_FORMED);
     }
     Check::Pass
 }
@@ -113,10 +111,10 @@ pub extern "C" fn card_new(record: &mut [u8], rows: u32, kinds: &[u8]) -> i32
     ensures { λ r. ⌜ Changes (new (now («record» .entry)) rows (now (kinds .entry))) r (now («record» .exit)) ⌝ }
 {
     if record.len() != model::RECORD_SIZE {
-        return WRONG_LENGTH;
+        return RECORD_LENGTH;
     }
     if !record::device::device_ok(rows, kinds) {
-        return BAD_DEVICE;
+        return DEVICE_OR_COLUMN;
     }
     record::clear::clear(record, rows, kinds);
     0
@@ -148,7 +146,7 @@ fn check_place(record: &[u8], task: &[u8], number: u32, column: u32, bottom: i32
         return Check::Refuse(BAD_NUMBER);
     }
     if full(record) {
-        return Check::Refuse(CARD_FULL);
+        return Check::Refuse(FULL);
     }
     if !fits_at(record, task, column, bottom) {
         return Check::Refuse(MISFIT);
@@ -210,7 +208,7 @@ fn list_task(record: &[u8], task: &[u8], output: &mut [u8]) -> i32
     ensures { λ r. ⌜ Writes (on-record (now («record» .entry)) (list (now (task .entry)) (now (output .entry)))) r (now (output .exit)) ⌝ }
 {
     if output.len() < model::LIST_ROOM {
-        return SHORT_OUTPUT;
+        return OUTPUT_SHORT;
     }
     match listing::output::list(record, task, output) {
         Listed::Ranges(count) => count as i32,
@@ -260,7 +258,7 @@ fn check_column(record: &[u8], column: u32) -> Check
         return check;
     };
     if record[model::COLUMNS_AT] as u32 <= column {
-        return Check::Refuse(NO_COLUMN);
+        return Check::Refuse(DEVICE_OR_COLUMN);
     }
     Check::Pass
 }
