@@ -2,7 +2,7 @@
 
 use std::collections::BTreeSet;
 use std::fs;
-use std::path::{Path, PathBuf};
+use std::path::Path;
 
 use documents::{declared, links, texts, top};
 
@@ -59,18 +59,14 @@ fn every_path_that_a_document_names_is_there() {
     }
 }
 
-/// The must-fail edits, as crate and name.
-fn edits() -> BTreeSet<(String, String)> {
+/// The names of all must-fail edits.
+fn edits() -> BTreeSet<String> {
     let mut found = BTreeSet::new();
     for entry in fs::read_dir(top().join("crates")).expect("the crates") {
-        let folder = entry.expect("an entry").path();
-        let Ok(entries) = fs::read_dir(folder.join("must-fail")) else {
-            continue;
-        };
-        for entry in entries {
-            let edit: PathBuf = entry.expect("an entry").path();
-            let name = |path: &Path| path.file_stem().expect("a name").to_string_lossy().into();
-            found.insert((name(&folder), name(&edit)));
+        let folder = entry.expect("an entry").path().join("must-fail");
+        for entry in fs::read_dir(folder).into_iter().flatten() {
+            let edit = entry.expect("an entry").path();
+            found.insert(edit.file_stem().expect("a name").to_string_lossy().into());
         }
     }
     found
@@ -80,13 +76,19 @@ fn edits() -> BTreeSet<(String, String)> {
 fn the_wrong_programs_are_the_must_fail_edits() {
     let text = read(&top().join("docs/WRONG-PROGRAMS.md"));
     let rows = text.lines().filter(|line| line.starts_with("| "));
-    let told: BTreeSet<&str> = rows
+    let told: BTreeSet<String> = rows
         .filter_map(|row| row.split(" | ").nth(1))
         .flat_map(quoted)
+        .map(String::from)
         .collect();
-    let edits = edits();
-    let tried: BTreeSet<&str> = edits.iter().map(|(_, name)| name.as_str()).collect();
-    assert_eq!(told, tried);
+    let tried = edits();
+    let untold: Vec<&String> = tried.difference(&told).collect();
+    let untried: Vec<&String> = told.difference(&tried).collect();
+    assert!(
+        untold.is_empty(),
+        "edits that the document leaves out: {untold:?}"
+    );
+    assert!(untried.is_empty(), "no such edits: {untried:?}");
 }
 
 #[test]
