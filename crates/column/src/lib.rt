@@ -10,6 +10,7 @@ ghost use Rattle.model.specs.Record.{column-part};
 ghost use Rattle.column.specs.Part.{Part, ReadAt, listed-in, Room, Joinable, Wrote, Absorbed, Changed, holding};
 use model::COLUMN_SIZE;
 use model::INTERVAL_SIZE;
+use model::INTERVAL_TOP_AT;
 use runs::higher;
 use runs::lower;
 use words::copy;
@@ -42,7 +43,7 @@ fn read(part: &[u8], i: usize) -> Interval
     let at = INTERVAL_SIZE * i;
     Interval {
         bottom: get16(part, at),
-        top: get16(part, at + 2),
+        top: get16(part, at + INTERVAL_TOP_AT),
     }
 }
 
@@ -53,7 +54,7 @@ fn push(out: &mut [u8], n: usize, bottom: u32, top: u32) -> usize
 {
     let at = INTERVAL_SIZE * n;
     put16(out, at, bottom);
-    put16(out, at + 2, top);
+    put16(out, at + INTERVAL_TOP_AT, top);
     n + 1
 }
 

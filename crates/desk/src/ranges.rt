@@ -23,9 +23,9 @@ fn print_range(
 {
     let start = model::RANGE_SIZE * i;
     let column = words::wide(listing[start]);
-    let step = words::wide(listing[start + 1]);
-    let first = words::get16(listing, start + 2);
-    let last = words::get16(listing, start + 4);
+    let step = words::wide(listing[start + model::RANGE_STEP_AT]);
+    let first = words::get16(listing, start + model::RANGE_FIRST_AT);
+    let last = words::get16(listing, start + model::RANGE_LAST_AT);
     line::print::print_line(out, at, number, answer, column, first, step, last)
 }
 

@@ -23,7 +23,7 @@ pub fn put_block(draft: &mut [u8], at: usize, b: BlockCall)
 {
     let kind = b.kind;
     draft[at] = b.column;
-    draft[at + 1] = kind.number();
-    words::put16(draft, at + 2, word(b.bottom));
-    words::put16(draft, at + 4, word(b.top));
+    draft[at + model::BLOCK_KIND_AT] = kind.number();
+    words::put16(draft, at + model::BLOCK_BOTTOM_AT, word(b.bottom));
+    words::put16(draft, at + model::BLOCK_TOP_AT, word(b.top));
 }

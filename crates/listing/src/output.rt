@@ -28,9 +28,9 @@ fn write_range(output: &mut [u8], n: usize, column: usize, step: u32, first: u32
 {
     let at = model::RANGE_SIZE * n;
     output[at] = column as u8;
-    output[at + 1] = step as u8;
-    words::put16(output, at + 2, first);
-    words::put16(output, at + 4, last);
+    output[at + model::RANGE_STEP_AT] = step as u8;
+    words::put16(output, at + model::RANGE_FIRST_AT, first);
+    words::put16(output, at + model::RANGE_LAST_AT, last);
 }
 
 // Writes the ranges of a column as numbers n and up of the output.

@@ -57,7 +57,7 @@ fn interval_at(record: &[u8], c: usize, j: usize) -> Interval
     let at = model::INTERVALS_AT + model::COLUMN_SIZE * c + model::INTERVAL_SIZE * j;
     Interval {
         bottom: words::get16(record, at),
-        top: words::get16(record, at + 2),
+        top: words::get16(record, at + model::INTERVAL_TOP_AT),
     }
 }
 

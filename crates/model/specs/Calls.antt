@@ -7,7 +7,7 @@ use mathlib.Core.List.{List, [], _∷_, _++_}
 use lib.Dec.{ltb, eqb, leb}
 use lib.IntN.{ℤ, pos, negsuc, negℤ}
 use lib.ListN.{length, getD, drop}
-use Rattle.model.specs.Limits.{max-running, range-size, list-room, column-weight}
+use Rattle.model.specs.Limits.{max-running, range-size, range-step-at, range-first-at, range-last-at, list-room, column-weight}
 use Rattle.model.specs.Bounded.{any-below, any-in, join-in}
 use Rattle.model.specs.Columns.{Device, columns, half-rows}
 use Rattle.model.specs.Tasks.{word, sized, well-formed}
@@ -97,7 +97,8 @@ range-bytes r = (r .column ∷ r .step ∷ []) ++ bytes16 (r .first) ++ bytes16 
 -- the first n ranges that such bytes say
 unfoldable pub ranges-in : ℕ → List ℕ → List Range
 ranges-in zero o = []
-ranges-in (suc n) o = record { column = getD o 0 0; step = getD o 1 0; first = word o 2; last = word o 4 } ∷ ranges-in n (drop range-size o)
+ranges-in (suc n) o =
+    record { column = getD o 0 0; step = getD o range-step-at 0; first = word o range-first-at; last = word o range-last-at } ∷ ranges-in n (drop range-size o)
 
 -- the bytes of o with l written over their front: "bytes after them stay"
 unfoldable pub over : List ℕ → List ℕ → List ℕ

@@ -18,6 +18,16 @@ max-blocks = 32
 abbrev pub block-size : ℕ
 block-size = 6
 
+-- "column (1), kind (1), bottom and top (2 each ..)": where the last three stand in a block
+abbrev pub block-kind-at : ℕ
+block-kind-at = 1
+
+abbrev pub block-bottom-at : ℕ
+block-bottom-at = 2
+
+abbrev pub block-top-at : ℕ
+block-top-at = 4
+
 -- "bottom is at least −256, top at most 256"
 abbrev pub reach : ℕ
 reach = 256
@@ -29,7 +39,10 @@ max-running = 64
 abbrev pub max-number : ℕ
 max-number = 65535
 
--- how many numbers two bytes hold
+-- how many numbers one byte holds, and two bytes
+abbrev pub bytes : ℕ
+bytes = 256
+
 abbrev pub words : ℕ
 words = 65536
 
@@ -71,6 +84,9 @@ max-intervals = 64
 abbrev pub interval-size : ℕ
 interval-size = 4
 
+abbrev pub interval-top-at : ℕ
+interval-top-at = 2
+
 -- "64 running entries of 198 bytes: task number (2), column (1), block count (1), bottom (2), 32 blocks", "the running part at byte 16,516",
 -- "The block bytes of an entry are read from its seventh byte on"
 abbrev pub entries-at : ℕ
@@ -78,6 +94,15 @@ entries-at = 16516
 
 abbrev pub entry-size : ℕ
 entry-size = 198
+
+abbrev pub entry-column-at : ℕ
+entry-column-at = 2
+
+abbrev pub entry-count-at : ℕ
+entry-count-at = 3
+
+abbrev pub entry-bottom-at : ℕ
+entry-bottom-at = 4
 
 abbrev pub blocks-at : ℕ
 blocks-at = 6
@@ -90,6 +115,16 @@ list-room = 24576
 
 abbrev pub range-size : ℕ
 range-size = 6
+
+-- "column (1), step (1), first (2), last (2)": where the last three stand in a range
+abbrev pub range-step-at : ℕ
+range-step-at = 1
+
+abbrev pub range-first-at : ℕ
+range-first-at = 2
+
+abbrev pub range-last-at : ℕ
+range-last-at = 4
 
 -- "It answers column × 1,024 + bottom"
 abbrev pub column-weight : ℕ
@@ -105,6 +140,12 @@ abbrev pub max-sheet : ℕ
 max-sheet = 32768
 
 -- "Task is 0 to 65,535, column 0 to 255, bottom and top −32,768 to 32,767, rows 0 to 65,535"
+abbrev pub max-task-field : ℕ
+max-task-field = 65535
+
+abbrev pub max-rows-field : ℕ
+max-rows-field = 65535
+
 abbrev pub max-column-field : ℕ
 max-column-field = 255
 

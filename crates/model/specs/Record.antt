@@ -3,7 +3,7 @@ use Prim.Native.Nat.{ℕ, _+_, _*_, _/_, _%_}
 use mathlib.Core.List.{List, [], _∷_, _++_, map}
 use lib.ListN.{length, getD, take, drop, replicate}
 use Rattle.runs.specs.Intervals.{Interval, interval}
-use Rattle.model.specs.Limits.{max-columns, max-running, max-intervals, block-size, rows-at, columns-at, running-at, kinds-at, counts-at, intervals-at, column-size, interval-size, entries-at, entry-size, blocks-at}
+use Rattle.model.specs.Limits.{max-columns, max-running, max-intervals, block-size, bytes, rows-at, columns-at, running-at, kinds-at, counts-at, intervals-at, column-size, interval-size, interval-top-at, entries-at, entry-size, entry-column-at, entry-count-at, entry-bottom-at, blocks-at}
 use Rattle.model.specs.Bounded.{join-below, list-below}
 use Rattle.model.specs.Columns.{Device, columns, kind}
 use Rattle.model.specs.Tasks.{word, blocks}
@@ -13,7 +13,7 @@ use Rattle.model.specs.Book.{Running, Book, intervals}
 
 -- "two-byte numbers are little-endian"
 unfoldable pub bytes16 : ℕ → List ℕ
-bytes16 n = n % 256 ∷ n / 256 % 256 ∷ []
+bytes16 n = n % bytes ∷ n / bytes % bytes ∷ []
 
 -- the n bytes that begin with l and go on with zeros: "All unused bytes are 0."
 unfoldable pub padded : ℕ → List ℕ → List ℕ
@@ -77,7 +77,12 @@ device-of r = record { rows = word r rows-at; kinds = list-below (getD r columns
 
 -- the running task that an entry says: "The block bytes of an entry are read from its seventh byte on."
 unfoldable pub running-of : List ℕ → Running
-running-of p = record { number = word p 0; column = getD p 2 0; bottom = word p 4; task = part p blocks-at (block-size * getD p 3 0) }
+running-of p = record {
+  number = word p 0;
+  column = getD p entry-column-at 0;
+  bottom = word p entry-bottom-at;
+  task = part p blocks-at (block-size * getD p entry-count-at 0);
+}
 
 -- the book that a record says
 unfoldable pub book-of : List ℕ → Book
@@ -86,4 +91,4 @@ book-of r = list-below (getD r running-at 0) (λ j. running-of (part r (entry-at
 -- the intervals that a record lists for column c
 unfoldable pub listed-intervals : List ℕ → ℕ → List Interval
 listed-intervals r c =
-    list-below (getD r (counts-at + c) 0) (λ i. interval (word r (column-at c + interval-size * i)) (word r (column-at c + interval-size * i + 2)))
+    list-below (getD r (counts-at + c) 0) (λ i. interval (word r (column-at c + interval-size * i)) (word r (column-at c + interval-size * i + interval-top-at)))

@@ -9,7 +9,7 @@ use lib.Dec.{leb, ltb, eqb}
 use lib.IntN.{ℤ, pos, negsuc}
 use lib.Signed.{leZ}
 use lib.ListN.{length, getD}
-use Rattle.model.specs.Limits.{max-line, max-number, max-column-field, max-height-field}
+use Rattle.model.specs.Limits.{max-line, max-task-field, max-rows-field, max-column-field, max-height-field}
 use Rattle.model.specs.Bounded.{all-in}
 use Rattle.model.specs.Columns.{Device, kind-C, kind-B, kind-D}
 
@@ -116,7 +116,7 @@ call-of letter task column kind bottom top =
 -- the line "call task column kind bottom top" as numbers and letters
 unfoldable pub six : List (List ℕ) → Option SheetCall
 six fs =
-    with-some (natural-field max-number (getD fs 1 [])) (λ task.
+    with-some (natural-field max-task-field (getD fs 1 [])) (λ task.
     with-some (natural-field max-column-field (getD fs 2 [])) (λ column.
     with-some (height-field (getD fs 4 [])) (λ bottom.
     with-some (height-field (getD fs 5 [])) (λ top.
@@ -147,7 +147,7 @@ kinds-field (x ∷ l) = kind-letters (x ∷ l)
 -- "rows 0 to 65,535": the device that the second line says, for new to judge
 unfoldable pub device-line : List ℕ → Option Device
 device-line l =
-    let read : Option Device = with-some (natural-field max-number (getD (fields l) 0 [])) (λ rows. with-some (kinds-field (getD (fields l) 1 [])) (λ kinds.
+    let read : Option Device = with-some (natural-field max-rows-field (getD (fields l) 0 [])) (λ rows. with-some (kinds-field (getD (fields l) 1 [])) (λ kinds.
     some (record { rows = rows; kinds = kinds }))) in
     cond (leb (length l) max-line && eqb (length (fields l)) 2) read none
 

@@ -5,7 +5,7 @@ use mathlib.Core.List.{List, [], _∷_}
 use lib.Dec.{leb, ltb, eqb}
 use lib.ListN.{length, getD}
 use Rattle.runs.specs.Intervals.{Interval}
-use Rattle.model.specs.Limits.{max-columns, max-running, max-number, max-blocks, max-intervals, block-size, record-size, columns-at, running-at, kinds-at, counts-at, column-size, interval-size, entry-size, blocks-at}
+use Rattle.model.specs.Limits.{max-columns, max-running, max-number, max-blocks, max-intervals, block-size, record-size, columns-at, running-at, kinds-at, counts-at, column-size, interval-size, entry-size, entry-count-at, blocks-at}
 use Rattle.model.specs.Bounded.{all-below, any-below, all-in}
 use Rattle.model.specs.Columns.{Device, columns, cells, device-ok}
 use Rattle.model.specs.Tasks.{sized, well-formed}
@@ -50,7 +50,7 @@ abbrev pub count-of : List ℕ → ℕ → ℕ
 count-of r c = getD r (counts-at + c) 0
 
 abbrev pub block-count : List ℕ → ℕ → ℕ
-block-count r j = getD r (entry-at j + 3) 0
+block-count r j = getD r (entry-at j + entry-count-at) 0
 
 -- "counts are in their limits": running tasks, blocks of a running task, intervals of a column
 unfoldable pub counts-ok : List ℕ → Bool

@@ -4,13 +4,13 @@ use mathlib.Core.Bool.{Bool, cond, not, _&&_, _||_}
 use mathlib.Core.List.{List}
 use lib.Dec.{leb, ltb, eqb}
 use lib.ListN.{length, getD}
-use Rattle.model.specs.Limits.{max-columns, max-kind, max-blocks, block-size, reach, words}
+use Rattle.model.specs.Limits.{max-columns, max-kind, max-blocks, block-size, block-kind-at, block-bottom-at, block-top-at, reach, bytes, words}
 use Rattle.model.specs.Bounded.{all-below, any-below}
 use Rattle.model.specs.Columns.{height, kind-C}
 
 -- "two-byte numbers are little-endian": the one that starts at byte i
 unfoldable pub word : List ℕ → ℕ → ℕ
-word l i = getD l i 0 + 256 * getD l (i + 1) 0
+word l i = getD l i 0 + bytes * getD l (i + 1) 0
 
 -- "signed two's complement": n stands for n, or for n - 65,536 from 32,768 on. This is that value plus `reach`, so that no number here is negative:
 -- the values from −256 to 256 are 0 to 512, and every other value is above 512 (Laws.Signed).
@@ -32,9 +32,9 @@ blocks t = length t / block-size
 unfoldable pub block : List ℕ → ℕ → Block
 block t i = record {
   column = getD t (block-size * i) 0;
-  kind = getD t (block-size * i + 1) 0;
-  low = lifted (word t (block-size * i + 2));
-  high = lifted (word t (block-size * i + 4));
+  kind = getD t (block-size * i + block-kind-at) 0;
+  low = lifted (word t (block-size * i + block-bottom-at));
+  high = lifted (word t (block-size * i + block-top-at));
 }
 
 -- "A task is 1 to 32 blocks of 6 bytes": not 0 bytes, nor over 192, nor no multiple of 6
