@@ -12,6 +12,7 @@ use Rattle.model.specs.Limits.{reach, max-rows}
 use Rattle.model.specs.Columns.{Device, height}
 use Rattle.model.specs.Tasks.{block}
 use Rattle.model.specs.Book.{Book, block-fits}
+use Rattle.model.specs.Laws.Steps.{Common}
 
 abbrev pub lift : ℕ
 lift = 2 * reach
@@ -39,12 +40,6 @@ pub record Stand (d : Device) (b : Book) (t : List ℕ) (p k y : ℕ) : Type 0 w
   pub high : y < lift + 2 * max-rows
   pub grid : Multiple (height (block t 0 .kind)) (y - lift)
   pub fits : (i : ℕ) → i < k → block-fits d b (block t i) p (y - lift) ≡ true
-
--- s is the least common multiple of the heights of the first m blocks
-pub record Common (t : List ℕ) (m s : ℕ) : Type 0 where
-  pub pos : 1 ≤ s
-  pub all : (i : ℕ) → i < m → Multiple (height (block t i .kind)) s
-  pub least : (x : ℕ) → ((i : ℕ) → i < m → Multiple (height (block t i .kind)) x) → Multiple s x
 
 -- L lists, in steps of s, the lifted bottoms at which the first k blocks of the task stand free
 pub record Standing (d : Device) (b : Book) (t : List ℕ) (p k s : ℕ) (L : List Run) : Type 0 where

@@ -26,7 +26,7 @@ consider-requires : tie.Need-consider-requires Inv-loop μ-loop
 consider-requires c κs = let s = c .score-at .ensures in (c .before .before .before .loop .inv .climbed .small, s .pieces-few, s .stretch-small)
 
 rise-requires : tie.Need-rise-requires Inv-loop μ-loop
-rise-requires c κs = (c .before .score-at .ensures .room-small, range-step (c .before .before .before .before .before .before .before .pre .1))
+rise-requires c κs = let p = c .before .before .before .before .before .before .before .pre in (c .before .score-at .ensures .room-small, range-step (p .0) (p .1))
 
 add-y : tie.Need-add-y Inv-loop μ-loop
 add-y c =
@@ -34,13 +34,13 @@ add-y c =
     let l = i .before .before in
     let p = l .before .before .before .pre in
     let y = bottom-small _ _ (p .0) _ _ (p .1 .all-fit _ (l .loop .inv .steps, i .if1 .taken)) in
-    omega (arith, c .rise .ensures .small, c .before .before .score-at .ensures .room-small, range-step (p .1) .1)
+    omega (arith, c .rise .ensures .small, c .before .before .score-at .ensures .room-small, range-step (p .0) (p .1) .1)
 
 loop-less : tie.Need-loop-less Inv-loop μ-loop
 loop-less c =
     let i = c .before .before .before in
     let p = i .before .before .before .before .before .pre in
-    omega (arith, i .if1 .taken, rise-pos (c .rise .ensures) (range-step (p .1) .0))
+    omega (arith, i .if1 .taken, rise-pos (c .rise .ensures) (range-step (p .0) (p .1) .0))
 
 loop-again : tie.Need-loop-again Inv-loop μ-loop
 loop-again c =

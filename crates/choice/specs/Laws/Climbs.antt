@@ -20,14 +20,13 @@ use Rattle.model.specs.Choice.{Judge, judge, Found, at, better, see, climb}
 use Rattle.model.specs.Record.{device-of, book-of}
 use Rattle.model.specs.Laws.Bounded.{clash, is-false}
 use Rattle.model.specs.Laws.Fits.{fits-below}
-use Rattle.model.specs.Laws.Steps.{fits-steps, step-two}
+use Rattle.model.specs.Laws.Steps.{step-bounds, fits-steps}
 use Rattle.model.specs.Laws.Limits.{limits-to}
 use Rattle.model.specs.Laws.Sound.{sound-within}
 use Rattle.model.specs.Laws.Raised.{Room}
 use Rattle.model.specs.Laws.Climb.{climb-none}
 use Rattle.model.specs.Laws.Ends.{raised-steps, choose-step}
 use Rattle.listing.specs.Columns.{Given}
-use Rattle.listing.specs.Laws.Blocks.{step-ten}
 use Rattle.listing.specs.Laws.Column.{some-blocks}
 use Rattle.choice.specs.Choosing.{max-pieces, max-stretch, Scored, Small, Is, better-of, Rises, Climbed, FitsRange}
 use Rattle.choice.specs.declared.Score.{Score}
@@ -73,8 +72,8 @@ rise-some room step l g =
     record { steps = (room - 1) / step; is = omega arith; inside = inr (omega arith); small = omega arith }
 
 -- the step of a range is not 0, and a byte
-pub range-step : {d : Device} {b : Book} {t : List ℕ} {p : ℕ} {R : Range} → FitsRange d b t p R → Step (R .step)
-range-step {t = t} g = omega (arith, g .step-is, step-two t, step-ten t)
+pub range-step : {r t : List ℕ} {p : ℕ} {R : Range} → Given r t → FitsRange (device-of r) (book-of r) t p R → Step (R .step)
+range-step {r} {t} a g = omega (arith, g .step-is, step-bounds t (some-blocks r t a))
 
 -- so a rise is not 0
 pub rise-pos : {room step v : ℕ} → Rises room step v → 1 ≤ step → 1 ≤ v
@@ -112,7 +111,7 @@ module _ (d : Device) (b : Book) (t : List ℕ) (w : well-formed t ≡ true) (n 
       go (inr k) = k
       go (inl k) =
           let (m, em) = g .last-in in
-          let am : a < suc m = lt-of-mul-lt-mul-right (step t) (omega (arith, step-two t)) in
+          let am : a < suc m = lt-of-mul-lt-mul-right (step t) (omega (arith, step-bounds t n)) in
           let mi : m * step t ≡ (a + (m - a)) * step t = ap (λ (x : ℕ). x * step t) (omega arith) in
           let ij : m - a < j = lt-of-mul-lt-mul-right (step t) (omega arith) in
           let more = mul-le-mul-right {m = suc (m - a)} {n = j} (step t) ij in

@@ -21,7 +21,7 @@ use Rattle.model.specs.Record.{device-of, book-of}
 use Rattle.model.specs.Calls.{no-position}
 use Rattle.model.specs.Laws.Bounded.{clash, is-false}
 use Rattle.model.specs.Laws.Fits.{fits-below}
-use Rattle.model.specs.Laws.Steps.{fits-steps, step-two}
+use Rattle.model.specs.Laws.Steps.{step-bounds, fits-steps}
 use Rattle.model.specs.Laws.Limits.{limits-to}
 use Rattle.model.specs.Laws.Sound.{columns-said, sound-within}
 use Rattle.model.specs.Laws.Climb.{climb-none}
@@ -101,11 +101,11 @@ module _ (d : Device) (b : Book) (t : List ℕ) (w : well-formed t ≡ true) (n 
       step-is = e;
       last-in = rw (← first-is, ← last-is) at (run-at (step t) 0 (ranges-in d b t p) i (run (half-rows d) (half-rows d)) (listed .canon) l .1);
       all-fit = λ z m. listed .named z .0 (run-named (step t) (ranges-in d b t p) i (run (half-rows d) (half-rows d)) z l (rw (first-is, last-is) at m)) .1;
-      ends = is-false (fits d b t p (y + step t)) (λ f. clash f (none-next (y + step t) (omega (arith, step-two t)) (below f above)));
+      ends = is-false (fits d b t p (y + step t)) (λ f. clash f (none-next (y + step t) (omega (arith, step-bounds t n)) (below f above)));
     }
       where
         below : fits d b t p (y + step t) ≡ true → Next → y + step t < range-at d b t p (suc i) .first
-        below f (inl h) = omega (arith, step-two t)
+        below f (inl h) = omega (arith, step-bounds t n)
         below f (inr h) = rw h (fits-below d b t p (y + step t) w n f .1)
 
     -- one range more
@@ -122,7 +122,7 @@ module _ (d : Device) (b : Book) (t : List ℕ) (w : well-formed t ≡ true) (n 
     })
       where
         up : Next → suc y ≤ range-at d b t p (suc i) .first
-        up (inl m) = omega (arith, step-two t)
+        up (inl m) = omega (arith, step-bounds t n)
         up (inr m) = rw m (fits-below d b t p y w n last-fits .1)
 
   -- all ranges are passed

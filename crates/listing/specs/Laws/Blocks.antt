@@ -2,12 +2,10 @@
 use Prim.Native.Nat.{ℕ, suc, _+_, _-_, _*_, _/_, _≤_, _<_, max}
 use mathlib.Core.Path.{_≡_, refl, sym, ap}
 use mathlib.Core.Logic.{_⊎_, inl, inr}
-use mathlib.Core.Bool.{Bool, true, false, not, cond}
+use mathlib.Core.Bool.{true}
 use mathlib.Core.List.{List, [], _∷_, map}
 use native.Mathlib.Nat.{mul-le-mul-right, div-add-mod', mod-lt}
 use native.Mathlib.Omega.{arith}
-use lib.Dec.{eqb}
-use borrow.Author.Tests.{not-true}
 use Rattle.runs.specs.Laws.Tests.{lt-or-ge}
 use Rattle.runs.specs.Runs.{Run, run, In, Mem, From, Lists, runs}
 use Rattle.runs.specs.Laws.Runs.{lists-runs}
@@ -18,19 +16,18 @@ use Rattle.runs.specs.Laws.Steps.{multiple-mod, multiple-times, multiple-le, mu
 use Rattle.runs.specs.Laws.Canon.{from-weaken, from-least}
 use Rattle.runs.specs.Laws.Both.{Spaced, Meeting}
 use Rattle.model.specs.Limits.{reach, max-rows}
-use Rattle.model.specs.Bounded.{any-below}
-use Rattle.model.specs.Columns.{Device, half-rows, height, kind-C, columns, kind}
+use Rattle.model.specs.Columns.{Device, half-rows, height, columns, kind}
 use Rattle.model.specs.Tasks.{blocks, block, step, well-formed}
 use Rattle.model.specs.Book.{Book, free, block-fits, fits, intervals}
 use Rattle.model.specs.Sound.{within}
-use Rattle.model.specs.Laws.Bounded.{any-to, any-of-one, is-false, clash, all-to, all-of}
+use Rattle.model.specs.Laws.Bounded.{all-to, all-of}
 use Rattle.model.specs.Laws.Columns.{height-pos}
 use Rattle.model.specs.Laws.Tasks.{solid-block, first-block}
 use Rattle.model.specs.Laws.Fits.{fitting-to, fits-to, fits-below}
-use Rattle.model.specs.Laws.Steps.{fits-steps, step-two}
+use Rattle.model.specs.Laws.Steps.{Common, common-step, common-bounds, step-bounds, block-apart, fits-steps}
 use Rattle.model.specs.Laws.Limits.{limits-to}
 use Rattle.model.specs.Laws.Cells.{intervals-grid}
-use Rattle.listing.specs.Bottoms.{lift, lowered, bottoms, Stand, Common, Standing}
+use Rattle.listing.specs.Bottoms.{lift, lowered, bottoms, Stand, Standing}
 use Rattle.listing.specs.Laws.Bottoms.{bottoms-to, bottoms-of, whole-cells, fits-stood, stood-fits}
 
 -- ---- the intervals of a column
@@ -63,60 +60,6 @@ module _ (t : List ℕ) where
       at i g (inl h) = multiple-times (height (block t i .kind)) s l (c .all i (omega arith)) (m .left)
       at i g (inr h) = let e : i ≡ k = omega arith in rw e (m .right)
 
-  -- "The step is 2 when all blocks are C, 5 when none is, 10 when both occur": it is the least common multiple of all heights
-  pub common-step : 1 ≤ blocks t → Common t (blocks t) (step t)
-  unfolding step height
-  common-step n = go (any-below (blocks t) (λ i. eqb (block t i .kind) kind-C)) refl (any-below (blocks t) (λ i. not (eqb (block t i .kind) kind-C))) refl
-    where
-      two-or-five : (x : ℕ) → Multiple 2 x → Multiple 5 x → (c : Bool) → Multiple (cond c 2 5) x
-      two-or-five x a b true = a
-      two-or-five x a b false = b
-
-      two : (x : ℕ) → any-below (blocks t) (λ i. eqb (block t i .kind) kind-C) ≡ true → ((i : ℕ) → i < blocks t → Multiple (height (block t i .kind)) x) → Multiple 2 x
-      two x e h = let (k, l, q) = any-to (blocks t) (λ i. eqb (block t i .kind) kind-C) e in rw q at (h k l)
-
-      go : (u : Bool) → any-below (blocks t) (λ i. eqb (block t i .kind) kind-C) ≡ u
-          → (v : Bool) → any-below (blocks t) (λ i. not (eqb (block t i .kind) kind-C)) ≡ v → Common t (blocks t) (cond u (cond v 10 2) 5)
-      go true e true r = record {
-        pos = omega arith;
-        all = λ i l. two-or-five 10 (5, omega arith) (2, omega arith) (eqb (block t i .kind) kind-C);
-        least = λ x h.
-            let (k, l, q) = any-to (blocks t) (λ i. not (eqb (block t i .kind) kind-C)) r in
-            let (i, u) = two x e h in
-            let (j, v) = rw (not-true (eqb (block t k .kind) kind-C) q) at (h k l) in
-            (i - 2 * j, omega arith);
-      }
-      go true e false r = record {
-        pos = omega arith;
-        all = λ i l. logic i l (eqb (block t i .kind) kind-C) refl;
-        least = λ x h. two x e h;
-      }
-        where
-          logic : (i : ℕ) → i < blocks t → (c : Bool) → eqb (block t i .kind) kind-C ≡ c → Multiple (cond c 2 5) 2
-          logic i l true q = (1, omega arith)
-          logic i l false q = clash (any-of-one (blocks t) (λ i. not (eqb (block t i .kind) kind-C)) i l (ap not q)) r
-      go false e v r = record {
-        pos = omega arith;
-        all = λ i l. rw (other i l) (1, omega arith);
-        least = λ x h. rw (other 0 n) at (h 0 n);
-      }
-        where
-          other : (i : ℕ) → i < blocks t → eqb (block t i .kind) kind-C ≡ false
-          other i l = is-false (eqb (block t i .kind) kind-C) (λ q. clash (any-of-one (blocks t) (λ i. eqb (block t i .kind) kind-C) i l q) e)
-
-  pub step-ten : step t ≤ 10
-  unfolding step
-  step-ten = go (any-below (blocks t) (λ i. eqb (block t i .kind) kind-C)) (any-below (blocks t) (λ i. not (eqb (block t i .kind) kind-C)))
-    where
-      go : (u v : Bool) → cond u (cond v 10 2) 5 ≤ 10
-      go true true = omega arith
-      go true false = omega arith
-      go false v = omega arith
-
-  -- of the first blocks alone it is no more
-  pub common-le : (m s : ℕ) → 1 ≤ blocks t → m ≤ blocks t → Common t m s → s ≤ step t
-  common-le m s n l c = let e = common-step n in multiple-le s (step t) (e .pos) (c .least (step t) (λ i g. e .all i (omega arith)))
-
 -- ---- lists of lifted bottoms
 
 -- the multiples of h from a on that are no more than n above it
@@ -137,13 +80,7 @@ module _ (d : Device) (b : Book) (t : List ℕ) (p : ℕ) where
     where
       go : lift ≤ x → lift ≤ y → (i < k) ⊎ (k ≤ i) → Multiple (height (block t i .kind)) (y - x)
       go a c (inl h) =
-          let f = fitting-to d b (block t i) p (x - lift) (u .fits i h) in
-          let e = fitting-to d b (block t i) p (y - lift) (v .fits i h) in
-          let fa = f .above in
-          let ea = e .above in
-          let (j, q) = multiple-sub (height (block t i .kind)) (y - lift + block t i .low - reach) (x - lift + block t i .low - reach)
-          (multiple-mod (height (block t i .kind)) (y - lift + block t i .low - reach) (e .grid))
-          (multiple-mod (height (block t i .kind)) (x - lift + block t i .low - reach) (f .grid)) (omega arith) in
+          let (j, q) = block-apart d b (block t i) p (x - lift) (y - lift) (fitting-to d b (block t i) p (x - lift) (u .fits i h)) (fitting-to d b (block t i) p (y - lift) (v .fits i h)) (omega arith) in
           (j, omega arith)
       go a c (inr h) =
           let n : i ≡ 0 = omega arith in
@@ -159,8 +96,8 @@ module _ (d : Device) (b : Book) (t : List ℕ) (p : ℕ) where
     pub listed-bound : (y : ℕ) → Mem s y L → (lift ≤ y) × (y < lift + 2 * max-rows)
     listed-bound y m = let u = g .named-to y m in (u .low, u .high)
 
-    pub listed-step : 1 ≤ blocks t → k ≤ blocks t → (1 ≤ s) × (s ≤ 10)
-    listed-step n l = (g .common .pos, omega (arith, common-le t (max 1 k) s n (omega arith) (g .common), step-ten t))
+    pub listed-step : (2 ≤ s) × (s ≤ 10)
+    listed-step = common-bounds t (max 1 k) s (omega arith) (g .common)
 
   -- no block met: the lifted half rows on the grid of the first block
   pub listed-start : (h : ℕ) → h ≡ height (block t 0 .kind) → Standing d b t p 0 h (run lift (lift + (2 * max-rows - 1) / h * h) ∷ [])
@@ -262,7 +199,7 @@ module _ (d : Device) (b : Book) (t : List ℕ) (p : ℕ) (w : within d b ≡ tr
       let m : max 1 k ≡ blocks t = omega arith in
       let e : s ≡ step t = common-unique t (blocks t) s (step t) (rw m at (g .common)) (common-step t n) in
       let c : From s (0 + lift) L = from-least s (0 + lift) 0 L (g .canon) (λ y h. g .named-to y h .low) in
-      let two = step-two t in
+      let two = step-bounds t n in
       let r : Lists s (fits d b t p) (half-rows d) (map lowered L) = record {
         canon = lowered-from s 0 L c;
         named = λ y. (
@@ -275,7 +212,7 @@ module _ (d : Device) (b : Book) (t : List ℕ) (p : ℕ) (w : within d b ≡ tr
   -- where a block has no column of its kind, there is no range
   pub none-stand : (k : ℕ) → k < blocks t → ((p + block t k .column < columns d) → kind d (p + block t k .column) ≡ block t k .kind → ⊥) → [] ≡ runs (step t) (fits d b t p) (half-rows d)
   none-stand k l h =
-      let two = step-two t in
+      let two = step-bounds t n in
       lists-runs (step t) (fits d b t p) (omega arith) (fits-steps d b t p n) (half-rows d) [] (record {
         canon = tt;
         named = λ y. (λ m. absurd m, λ (g, e). let u = fits-to d b t p y e k l in h (u .column) (u .kind));

@@ -13,7 +13,6 @@ use native.Mathlib.Nat.{div-add-mod'}
 use Rattle.runs.specs.Runs.{Mem}
 use Rattle.runs.specs.Intervals.{Interval, interval}
 use Rattle.runs.specs.Meet.{Step, Lcm}
-use Rattle.runs.specs.Laws.Steps.{multiple-le}
 use Rattle.model.specs.Laws.Bounded.{last-or}
 use Rattle.model.specs.Kinds.{number-of}
 use Rattle.model.specs.Limits.{block-size, max-blocks, max-kind, max-columns, max-rows, columns-at, kinds-at}
@@ -23,7 +22,7 @@ use Rattle.model.specs.Tasks as model
 use Rattle.model.specs.Book.{intervals}
 use Rattle.model.specs.Record.{device-of, book-of, listed-intervals}
 use Rattle.model.specs.Sound.{sound, count-of}
-use Rattle.model.specs.Laws.Columns.{height-two, top-le}
+use Rattle.model.specs.Laws.Columns.{top-le}
 use Rattle.model.specs.Laws.Tasks.{sized-to, solid-block}
 use Rattle.model.specs.Laws.Limits.{limits-to}
 use Rattle.model.specs.Laws.Cells.{interval-ends}
@@ -124,7 +123,7 @@ start-lifted r t F T p n s g = record { few = omega (arith, g .count-is); listed
 -- in steps of 2 or more there are few runs
 few-listed : (r t : List ℕ) (p k s n : ℕ) (F T : List ℕ) → Standing (device-of r) (book-of r) t p k s (read n F T) → n ≤ max-runs
 few-listed r t p k s n F T g =
-    let two : 2 ≤ s = omega (arith, height-two (block t 0 .kind), multiple-le (height (block t 0 .kind)) s (g .common .pos) (g .common .all 0 (omega arith))) in
+    let (two, ten) = listed-step (device-of r) (book-of r) t p k s (read n F T) g in
     omega (arith, length-read n F T, few-runs s (read n F T) two (g .canon) (listed-bound (device-of r) (book-of r) t p k s (read n F T) g))
 
 module _ (r t : List ℕ) (p k n s : ℕ) (F T : List ℕ) (x : Nextable r t p k n s F T) where
@@ -133,6 +132,9 @@ module _ (r t : List ℕ) (p k n s : ℕ) (F T : List ℕ) (x : Nextable r t p k
 
   on : On r t p k
   on = x .liftable .on k (x .next)
+
+  steps : Step s
+  steps = omega (arith, listed-step (device-of r) (book-of r) t p k s (read n F T) (x .lifted .listed))
 
   -- the column's intervals are those of the book
   listed-free : listed-intervals r (p + block t k .column) ≡ intervals (device-of r) (book-of r) (p + block t k .column)
@@ -156,7 +158,6 @@ module _ (r t : List ℕ) (p k n s : ℕ) (F T : List ℕ) (x : Nextable r t p k
       let w = sound-within r (given .sound) in
       let z = solid-block t (given .formed) k (x .next) in
       let g = x .lifted .listed in
-      let (one, ten) = listed-step (device-of r) (book-of r) t p k s (read n F T) g (some-blocks r t given) (omega (arith, x .next)) in
       record {
         size = sound-length r (given .sound);
         column = omega (arith, on .0, few-columns r (given .sound));
@@ -169,7 +170,7 @@ module _ (r t : List ℕ) (p k n s : ℕ) (F T : List ℕ) (x : Nextable r t p k
         whole = whole-cells (block t k) z;
         room = m;
         count = x .lifted .few;
-        step = (one, omega arith);
+        step = steps;
         canon = rw e (g .canon);
         spaced = rw e (listed-spaced (device-of r) (book-of r) t p k s (read n F T) g);
         bound = λ y u. listed-bound (device-of r) (book-of r) t p k s (read n F T) g y (rw e at u);
@@ -184,9 +185,7 @@ module _ (r t : List ℕ) (p k n s : ℕ) (F T : List ℕ) (x : Nextable r t p k
     meetable L H m e = subst (λ (a : model.Block). Meetable r (p + a .column) a L H n s) (sym (same-seen b (block t k) same)) (meetable-block L H m e)
 
     pub next-steps : (h : ℕ) → h ≡ height (seen b .kind) → Step s × Step h
-    next-steps h e =
-        let (one, ten) = listed-step (device-of r) (book-of r) t p k s (read n F T) (x .lifted .listed) (some-blocks r t given) (omega (arith, x .next)) in
-        ((one, omega arith), rw e (height-step (seen b .kind)))
+    next-steps h e = (steps, rw e (height-step (seen b .kind)))
 
     pub next-lifted : (L H G U : List ℕ) (o h l : ℕ) → read n L H ≡ read n F T → Met r (p + b .column) (seen b) s (read n L H) (read o G U) → h ≡ height (seen b .kind)
         → Lcm s h l → LiftedTo r t p (k + 1) o l G U

@@ -19,14 +19,13 @@ use Rattle.model.specs.Laws.Bounded.{is-false, map-append}
 use Rattle.model.specs.Laws.Parts.{splice, splice-none, splice-more, length-splice, set-two}
 use Rattle.model.specs.Laws.Listing.{join-append}
 use Rattle.model.specs.Laws.Limits.{limits-to}
-use Rattle.model.specs.Laws.Steps.{fits-steps}
+use Rattle.model.specs.Laws.Steps.{step-bounds, fits-steps}
 use Rattle.model.specs.Laws.NoPosition.{ranges-none-iff}
 use Rattle.model.specs.Laws.Sound.{sound-within}
 use Rattle.listing.specs.Arrays.{max-runs, read, Room}
 use Rattle.listing.specs.Columns.{Given, ranges-in, Ranged}
 use Rattle.listing.specs.Output.{Writable, AllWritable, column-bytes, ranges-below, Answers}
 use Rattle.listing.specs.declared.output.Listed.the-variants.{Ranges, NoPosition}
-use Rattle.listing.specs.Laws.Blocks.{step-ten}
 use Rattle.listing.specs.Laws.Arrays.{length-read, ends-named}
 use Rattle.listing.specs.Laws.Column.{some-blocks, few-columns}
 
@@ -144,7 +143,7 @@ module _ (r t : List ℕ) (g : Given r t) (o₀ : List ℕ) (big : list-room ≤
             count = x .few;
             room = omega (arith, written-length p n o w, w .few, x .few);
             column-fits = omega arith;
-            step-fits = omega (arith, step-ten t);
+            step-fits = omega (arith, step-bounds t (some-blocks r t g));
             fits = small;
           }
 

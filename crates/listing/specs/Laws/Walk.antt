@@ -5,10 +5,8 @@ use mathlib.Core.Logic.{_⊎_, inl, inr}
 use mathlib.Core.List.{List, [], _∷_}
 use native.Mathlib.Omega.{arith}
 use native.Mathlib.Numerals.{add-one}
-use lib.Dec.{eqb}
 use lib.ListN.{length, getD, drop}
 use lib.Seq.{drop-cons}
-use Rattle.runs.specs.Laws.Tests.{cond-ind}
 use Rattle.runs.specs.Runs.{Run, run, Mem, push}
 use Rattle.runs.specs.Intervals.{Interval, interval, Multiple, OnGrid}
 use Rattle.runs.specs.Meet.{Step, Proper, Lcm, Both-of}
@@ -19,11 +17,11 @@ use Rattle.runs.specs.Laws.Lcm.{lcm-unique, product-small}
 use Rattle.runs.specs.Laws.Both.{Walk, Put, both?, both-steps, written-met, pass-left, pass-right, walk-start, walk-done, written-of}
 use Rattle.runs.specs.declared.Range.{Range}
 use Rattle.model.specs.Limits.{reach}
-use Rattle.model.specs.Columns.{height, kind-C}
+use Rattle.model.specs.Columns.{height}
 use Rattle.model.specs.Tasks as model
 use Rattle.model.specs.Record.{listed-intervals}
 use Rattle.model.specs.Sound.{count-of}
-use Rattle.model.specs.Laws.Columns.{height-two}
+use Rattle.model.specs.Laws.Columns.{height-two, height-ten}
 use Rattle.model.specs.Laws.Parts.{getD-list}
 use Rattle.model.specs.Laws.WriteBack.{count-listed}
 use Rattle.listing.specs.Bottoms.{lift, bottoms-in, range-in, bottoms}
@@ -32,8 +30,7 @@ use Rattle.listing.specs.Laws.Bottoms.{bottoms-none, bottoms-short, bott
 use Rattle.listing.specs.Laws.Arrays.{length-read, drop-read, drop-all, steps-at, ends-named, few-runs}
 
 pub height-step : (k : ℕ) → Step (height k)
-unfolding height
-height-step k = cond-ind Step (eqb k kind-C) (λ e. omega arith) (λ e. omega arith)
+height-step k = omega (arith, height-two k, multiple-le (height k) 10 (omega arith) (height-ten k))
 
 -- ---- the intervals that the record lists, one after the other
 

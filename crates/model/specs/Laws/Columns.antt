@@ -1,8 +1,10 @@
 -- Heights, cells and tops: what holds of them for every kind. Assumes nothing.
 use Prim.Native.Nat.{ℕ, _*_, _≤_}
+use mathlib.Core.Path.{refl}
 use native.Mathlib.Nat.{mul-div-le}
 use native.Mathlib.Omega.{arith}
 use lib.Dec.{eqb}
+use Rattle.runs.specs.Intervals.{Multiple}
 use Rattle.runs.specs.Laws.Tests.{cond-ind}
 use Rattle.model.specs.Columns.{height, kind-C, cells-in, top-in, Device, half-rows, kind, top}
 
@@ -13,6 +15,11 @@ height-two k = cond-ind (λ h. 2 ≤ h) (eqb k kind-C) (λ e. omega arith) (λ e
 
 pub height-pos : (k : ℕ) → 1 ≤ height k
 height-pos k = omega (arith, height-two k)
+
+-- and divides 10
+pub height-ten : (k : ℕ) → Multiple (height k) 10
+unfolding height
+height-ten k = cond-ind (λ h. Multiple h 10) (eqb k kind-C) (λ e. (5, refl)) (λ e. (2, refl))
 
 -- the last cell ends on the device
 pub top-in-le : (rows k : ℕ) → top-in rows k ≤ 2 * rows

@@ -1,26 +1,25 @@
 -- A well-formed task where it fits: its blocks stand in free intervals, so n comes block by block; while it rises inside these intervals s stays, and n is
 -- no less until a block meets an end. So the choice need only look at the ends. Assumes nothing.
 use Prim.Native.Nat.{ℕ, zero, suc, _+_, _-_, _*_, _%_, _≤_, _<_}
-use mathlib.Core.Path.{_≡_, refl, sym, ap, _∙_}
+use mathlib.Core.Path.{_≡_, refl, ap, _∙_}
 use mathlib.Core.Logic.{_⊎_, inl, inr}
-use mathlib.Core.Bool.{Bool, true, false, not, cond}
+use mathlib.Core.Bool.{true, false}
 use mathlib.Core.List.{List}
-use native.Mathlib.Nat.{mul-assoc, add-mul-mod-self-right, mul-le-mul-right, lt-of-mul-lt-mul-right}
+use native.Mathlib.Nat.{add-mul-mod-self-right, mul-le-mul-right, lt-of-mul-lt-mul-right}
 use native.Mathlib.Omega.{arith}
-use lib.Dec.{eqb}
 use Rattle.runs.specs.Runs.{Steps}
 use Rattle.runs.specs.Intervals.{Free, Holds, Multiple}
+use Rattle.runs.specs.Laws.Steps.{multiple-times}
 use Rattle.runs.specs.Laws.Intervals.{intervals-free, holds-free, holds-of}
 use Rattle.model.specs.Limits.{reach}
-use Rattle.model.specs.Bounded.{any-below, sum-below}
-use Rattle.model.specs.Columns.{Device, half-rows, kind-C, height, columns, kind, top}
+use Rattle.model.specs.Bounded.{sum-below}
+use Rattle.model.specs.Columns.{Device, half-rows, height, columns, kind, top}
 use Rattle.model.specs.Tasks.{Block, blocks, block, well-formed, step}
 use Rattle.model.specs.Book.{Book, placed, free, fits, intervals}
 use Rattle.model.specs.Choice.{stretch, judge, Found, nothing, at, see, climb, chosen}
-use Rattle.model.specs.Laws.Bounded.{clash, any-of-one}
 use Rattle.model.specs.Laws.Tasks.{Before, full-block, in-order}
 use Rattle.model.specs.Laws.Fits.{Fitting, fits-to, fits-of}
-use Rattle.model.specs.Laws.Steps.{fits-steps, step-two}
+use Rattle.model.specs.Laws.Steps.{common-step, step-bounds, fits-steps}
 use Rattle.model.specs.Laws.Homes.{Under, Stands, adds, at-home}
 use Rattle.model.specs.Laws.Pieces.{pieces-adds}
 use Rattle.model.specs.Laws.Raised.{Raised, Room, raised-stands, stretch-same, pieces-more}
@@ -57,26 +56,6 @@ module _ (d : Device) (b : Book) (k : Block) (p y : ℕ) (full : k .low < k .hig
     where
       here : (z : ℕ) → y + k .low - reach ≤ z → z < y + k .high - reach → (z < top d (p + k .column)) × (free d b (p + k .column) z ≡ true)
       here z u v = column-free d b (p + k .column) .named z .0 (holds-of (y + k .low - reach) (y + k .high - reach) (omega arith) (intervals d b (p + k .column)) h z u v)
-
--- the step is a multiple of each block's height
-pub step-multiple : (t : List ℕ) (k : ℕ) → k < blocks t → Multiple (height (block t k .kind)) (step t)
-unfolding step height
-step-multiple t k l = go (eqb (block t k .kind) kind-C) refl (any-below (blocks t) logic) refl (any-below (blocks t) other) refl
-  where
-    logic : ℕ → Bool
-    logic i = eqb (block t i .kind) kind-C
-
-    other : ℕ → Bool
-    other i = not (eqb (block t i .kind) kind-C)
-
-    go : (e : Bool) → logic k ≡ e → (u : Bool) → any-below (blocks t) logic ≡ u → (v : Bool) → any-below (blocks t) other ≡ v
-        → Multiple (cond e 2 5) (cond u (cond v 10 2) 5)
-    go true p true q true r = (5, refl)
-    go true p true q false r = (1, refl)
-    go true p false q v r = clash (any-of-one (blocks t) logic k l p) q
-    go false p true q true r = (2, refl)
-    go false p true q false r = clash (any-of-one (blocks t) other k l (ap not p)) r
-    go false p false q v r = (1, refl)
 
 -- ---- a fitting position
 
@@ -132,7 +111,7 @@ module _ (d : Device) (b : Book) (t : List ℕ) (w : well-formed t ≡ true) (p 
   pub raised-steps : (j : ℕ) → Room (j * step t) (placed t p y) (intervals d b) → fits d b t p (y + j * step t) ≡ true
   raised-steps j room =
       raised-fits (j * step t) room
-      (λ k l. let (i, e) = step-multiple t k l in (j * i, ap (λ (x : ℕ). j * x) e ∙ sym (mul-assoc j i (height (block t k .kind)))))
+      (λ k l. multiple-times (height (block t k .kind)) (step t) (j * step t) (common-step t (omega arith) .all k l) (j, refl))
 
   -- THEOREM, the law of the ends: each block has `up` half rows or more above it in its interval. At a bottom above y and below y + up, s is that of y,
   -- and n is no less.
@@ -156,7 +135,7 @@ module _ (d : Device) (b : Book) (t : List ℕ) (w : well-formed t ≡ true) (p 
   pub choose-step : (up j : ℕ) (g : Found) → 1 ≤ blocks t → Room up (placed t p y) (intervals d b) → (j ≡ 0) ⊎ (j * step t < up)
       → climb (judge d b t) p (y + suc j * step t) g ≡ see (judge d b t) p y (climb (judge d b t) p y g)
   choose-step up j g n room h =
-      choose-jump up (y + suc j * step t) g room (omega (arith, step-two t)) (λ z a c e. go z c (fits-steps d b t p n y z f e a) h)
+      choose-jump up (y + suc j * step t) g room (omega (arith, step-bounds t n)) (λ z a c e. go z c (fits-steps d b t p n y z f e a) h)
     where
       go : (z : ℕ) → z < y + suc j * step t → Steps (step t) (y + step t) z → (j ≡ 0) ⊎ (j * step t < up) → z < y + up
       go z c (i, e) (inl r) = absurd (omega (arith, ap (λ (x : ℕ). x * step t) r))

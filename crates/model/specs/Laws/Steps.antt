@@ -1,12 +1,14 @@
--- The fitting bottoms of a task in one column lie in one class of its step. Assumes nothing.
-use Prim.Native.Nat.{ℕ, zero, suc, _+_, _-_, _*_, _≤_, _<_}
-use mathlib.Core.Path.{_≡_, refl}
+-- The step of a task is the least common multiple of the heights of its blocks. So its fitting bottoms in one column lie in one class of it. Assumes nothing.
+use Prim.Native.Nat.{ℕ, suc, _+_, _-_, _*_, _≤_, _<_}
+use mathlib.Core.Path.{_≡_, refl, ap}
 use mathlib.Core.Bool.{Bool, true, false, not, cond}
 use mathlib.Core.List.{List}
 use native.Mathlib.Omega.{arith}
 use lib.Dec.{eqb}
 use borrow.Author.Tests.{not-true}
-use Rattle.runs.specs.Runs.{Steps}
+use Rattle.runs.specs.Intervals.{Multiple}
+use Rattle.runs.specs.Laws.Tests.{cond-ind}
+use Rattle.runs.specs.Laws.Steps.{multiple-le, multiple-steps}
 use Rattle.runs.specs.Laws.Runs.{InStep, class-steps}
 use Rattle.model.specs.Limits.{reach}
 use Rattle.model.specs.Bounded.{any-below}
@@ -14,57 +16,73 @@ use Rattle.model.specs.Columns.{Device, height, kind-C}
 use Rattle.model.specs.Tasks.{Block, blocks, block, step}
 use Rattle.model.specs.Book.{Book, fits}
 use Rattle.model.specs.Laws.Bounded.{any-to, any-of-one, is-false, clash}
+use Rattle.model.specs.Laws.Columns.{height-two, height-ten}
 use Rattle.model.specs.Laws.Fits.{Fitting, fits-to}
 
--- two fitting bottoms of a block are one or more of its heights apart
-pub block-steps : (d : Device) (b : Book) (k : Block) (p y z : ℕ) → Fitting d b k p y → Fitting d b k p z → y < z → Steps (height (k .kind)) (y + height (k .kind)) z
-block-steps d b k p y z f g l =
+-- s is the least common multiple of the heights of the first m blocks
+pub record Common (t : List ℕ) (m s : ℕ) : Type 0 where
+  pub pos : 1 ≤ s
+  pub all : (i : ℕ) → i < m → Multiple (height (block t i .kind)) s
+  pub least : (x : ℕ) → ((i : ℕ) → i < m → Multiple (height (block t i .kind)) x) → Multiple s x
+
+module _ (t : List ℕ) where
+  abbrev logic : ℕ → Bool
+  logic i = eqb (block t i .kind) kind-C
+
+  abbrev other : ℕ → Bool
+  other i = not (logic i)
+
+  -- THEOREM, "The step is 2 when all blocks are C, 5 when none is, 10 when both occur": it is the least common multiple of all heights.
+  -- These numbers are taken apart here alone; whatever else is said of the step follows.
+  pub common-step : 1 ≤ blocks t → Common t (blocks t) (step t)
+  unfolding step height
+  common-step n = go (any-below (blocks t) logic) refl (any-below (blocks t) other) refl
+    where
+      go : (u : Bool) → any-below (blocks t) logic ≡ u → (v : Bool) → any-below (blocks t) other ≡ v → Common t (blocks t) (cond u (cond v 10 2) 5)
+      go true e true r = record {
+        pos = omega arith;
+        all = λ i l. cond-ind (λ h. Multiple h 10) (logic i) (λ q. (5, refl)) (λ q. (2, refl));
+        least = λ x h.
+            let (k, l, q) = any-to (blocks t) logic e in
+            let (m, g, o) = any-to (blocks t) other r in
+            let (i, u) = rw q at (h k l) in
+            let (j, v) = rw (not-true (logic m) o) at (h m g) in
+            (i - 2 * j, omega arith);
+      }
+      go true e false r = record {
+        pos = omega arith;
+        all = λ i l. cond-ind (λ h. Multiple h 2) (logic i) (λ q. (1, refl)) (λ q. clash (any-of-one (blocks t) other i l (ap not q)) r);
+        least = λ x h. let (k, l, q) = any-to (blocks t) logic e in rw q at (h k l);
+      }
+      go false e v r = record { pos = omega arith; all = λ i l. rw (none i l) (1, refl); least = λ x h. rw (none 0 n) at (h 0 n) }
+        where
+          none : (i : ℕ) → i < blocks t → logic i ≡ false
+          none i l = is-false (logic i) (λ q. clash (any-of-one (blocks t) logic i l q) e)
+
+  -- it is no less than a height, and no more than what all heights divide
+  pub common-bounds : (m s : ℕ) → 1 ≤ m → Common t m s → (2 ≤ s) × (s ≤ 10)
+  common-bounds m s l c = (
+    omega (arith, height-two (block t 0 .kind), multiple-le (height (block t 0 .kind)) s (c .pos) (c .all 0 l)),
+    multiple-le s 10 (omega arith) (c .least 10 (λ i g. height-ten (block t i .kind))),
+  )
+
+  pub step-bounds : 1 ≤ blocks t → (2 ≤ step t) × (step t ≤ 10)
+  step-bounds n = common-bounds (blocks t) (step t) n (common-step n)
+
+-- two fitting bottoms of a block are a multiple of its height apart
+pub block-apart : (d : Device) (b : Book) (k : Block) (p y z : ℕ) → Fitting d b k p y → Fitting d b k p z → y < z → Multiple (height (k .kind)) (z - y)
+block-apart d b k p y z f g l =
     let fa = f .above in
     let ga = g .above in
     let (j, e) = class-steps (height (k .kind)) 0 (y + k .low - reach) (z + k .low - reach) (f .grid) (g .grid) (omega arith) in
-    (j, omega arith)
-
--- in steps of a and of b: in steps of c, if c divides what a and b divide
-pub both-steps : (a b c y z : ℕ) → y < z → ((x i j : ℕ) → x ≡ i * a → x ≡ j * b → (m : ℕ) × (x ≡ m * c)) → Steps a (y + a) z → Steps b (y + b) z → Steps c (y + c) z
-both-steps a b c y z l h (i, u) (j, v) = go (h (z - y) (suc i) (suc j) (omega arith) (omega arith))
-  where
-    go : (m : ℕ) × (z - y ≡ m * c) → Steps c (y + c) z
-    go (zero, e) = absurd (omega arith)
-    go (suc m, e) = (m, omega arith)
-
-ten : (x i j : ℕ) → x ≡ i * 2 → x ≡ j * 5 → (m : ℕ) × (x ≡ m * 10)
-ten x i j p q = (i - 2 * j, omega arith)
+    (suc j, omega arith)
 
 module _ (d : Device) (b : Book) (t : List ℕ) (p : ℕ) where
-  kind-steps : (y z k h : ℕ) → k < blocks t → height (block t k .kind) ≡ h → fits d b t p y ≡ true → fits d b t p z ≡ true → y < z → Steps h (y + h) z
-  kind-steps y z k h l e f g a = rw e at (block-steps d b (block t k) p y z (fits-to d b t p y f k l) (fits-to d b t p z g k l) a)
+  -- THEOREM: the fitting bottoms of a column are in steps of the least common multiple of the heights, whatever these are
+  pub fits-common : (s : ℕ) → Common t (blocks t) s → InStep s (fits d b t p)
+  fits-common s c y z f g l =
+      multiple-steps s y z l (c .least (z - y) (λ k i. block-apart d b (block t k) p y z (fits-to d b t p y f k i) (fits-to d b t p z g k i) l))
 
-  -- THEOREM: the fitting bottoms of a column are in steps of the task's step
+  -- so in steps of the task's step
   pub fits-steps : 1 ≤ blocks t → InStep (step t) (fits d b t p)
-  unfolding step height
-  fits-steps n y z f g l = go (any-below (blocks t) (λ i. eqb (block t i .kind) kind-C)) refl (any-below (blocks t) (λ i. not (eqb (block t i .kind) kind-C))) refl
-    where
-      two : any-below (blocks t) (λ i. eqb (block t i .kind) kind-C) ≡ true → Steps 2 (y + 2) z
-      two e = let (k, i, q) = any-to (blocks t) (λ i. eqb (block t i .kind) kind-C) e in kind-steps y z k 2 i (rw q) f g l
-
-      five : (k : ℕ) → k < blocks t → eqb (block t k .kind) kind-C ≡ false → Steps 5 (y + 5) z
-      five k i q = kind-steps y z k 5 i (rw q) f g l
-
-      go : (u : Bool) → any-below (blocks t) (λ i. eqb (block t i .kind) kind-C) ≡ u
-          → (v : Bool) → any-below (blocks t) (λ i. not (eqb (block t i .kind) kind-C)) ≡ v → Steps (cond u (cond v 10 2) 5) (y + cond u (cond v 10 2) 5) z
-      go true e true r =
-          let (k, i, q) = any-to (blocks t) (λ i. not (eqb (block t i .kind) kind-C)) r in
-          both-steps 2 5 10 y z l ten (two e) (five k i (not-true (eqb (block t k .kind) kind-C) q))
-      go true e false r = two e
-      go false e v r =
-          five 0 n (is-false (eqb (block t 0 .kind) kind-C) (λ q. clash (any-of-one (blocks t) (λ i. eqb (block t i .kind) kind-C) 0 n q) e))
-
--- a step is 2 or more
-pub step-two : (t : List ℕ) → 2 ≤ step t
-unfolding step
-step-two t = go (any-below (blocks t) (λ i. eqb (block t i .kind) kind-C)) (any-below (blocks t) (λ i. not (eqb (block t i .kind) kind-C)))
-  where
-    go : (u v : Bool) → 2 ≤ cond u (cond v 10 2) 5
-    go true true = omega arith
-    go true false = omega arith
-    go false v = omega arith
+  fits-steps n = fits-common (step t) (common-step t n)
