@@ -275,7 +275,7 @@ pub extern "C" fn card_interval_count(record: &[u8], column: u32) -> i32
 }
 
 // A column's free intervals, four bytes each, as a part of the record; empty where the interval count is a refusal.
-pub fn intervals(record: &[u8], column: u32) -> &[u8]
+pub fn view(record: &[u8], column: u32) -> &[u8]
     ensures { λ r. ⌜ now r ≡ view (now («record» .entry)) column ⌝ }
 {
     let Check::Pass = check_column(record, column) else {

@@ -1,9 +1,9 @@
--- `intervals`: empty, or the part of the column. Assumes nothing.
+-- `view`: empty, or the part of the column. Assumes nothing.
 use borrow.Author.Needs.{needs}
 use native.Mathlib.Omega.{arith}
 use Rattle.card.specs.Laws.Intervals.{count-refused, counted, view-part}
-use Rattle.card.proofs.intervals.Statement.{statement}
-use Rattle.card.proofs.intervals.Tie as tie
+use Rattle.card.proofs.view.Statement.{statement}
+use Rattle.card.proofs.view.Tie as tie
 
 check-column-requires : tie.Need-check-column-requires
 check-column-requires c κs = search needs
@@ -77,8 +77,8 @@ returns-2 c =
     let k = e .before .before in
     view-part _ _ _ (k .check-column .ensures) (e .enum-told .given .1) (λ i. omega (arith, k .before .shared-slice-known .given i))
 
-pub intervals-spec : {M : Type 1} → statement M
-intervals-spec =
+pub view-spec : {M : Type 1} → statement M
+view-spec =
     tie.close
     (tie.spec
     check-column-requires
