@@ -5,16 +5,17 @@ use mathlib.Core.Logic.{_⊎_}
 use mathlib.Core.Bool.{Bool, true, false, not, cond, _&&_}
 use mathlib.Core.List.{List}
 use lib.Dec.{ltb, eqb}
+use lib.IntN.{ℤ, pos, negℤ}
 use lib.ListN.{length, getD}
 use Rattle.runs.specs.Runs.{Run, run, Steps, In}
 use Rattle.runs.specs.Intervals.{Interval, interval}
 use Rattle.runs.specs.declared.Range.{Range}
-use Rattle.model.specs.Limits.{max-rows, max-columns, max-blocks, words}
+use Rattle.model.specs.Limits.{max-rows, max-columns, max-blocks, column-weight, words}
 use Rattle.model.specs.Columns.{Device}
 use Rattle.model.specs.Tasks.{step}
 use Rattle.model.specs.Book.{Book, Placed, placed, fits, intervals}
 use Rattle.model.specs.Choice.{home, Judge, judge, Found, nothing, at, climb, chosen}
-use Rattle.model.specs.Calls.{no-position}
+use Rattle.model.specs.Calls.{choose, on-book}
 use Rattle.model.specs.Laws.Homes.{bit}
 use Rattle.model.specs.Laws.Raised.{Room}
 use Rattle.choice.specs.declared.Seat.{Seat}
@@ -111,15 +112,18 @@ pub record RangesAre (L : List Run) (firsts lasts : List ℕ) : Type 0 where
 
 -- ---- the answer
 
-pub record ChosenAt (d : Device) (b : Book) (t : List ℕ) (q z n s : ℕ) : Type 0 where
-  pub chosen : chosen d b t ≡ at q z
-  pub pieces : n ≡ judge d b t .n q z
-  pub stretch : s ≡ judge d b t .s q z
-  pub some-position : no-position d b t ≡ false
-  pub column-small : q < max-columns
-  pub bottom-small : z < 2 * max-rows
+-- document 01's number of each case: "It answers column × 1,024 + bottom."; "−9: no position fits"
+abbrev pub answer-of : Best → ℤ
+answer-of Nothing = negℤ (pos 9)
+answer-of (At q z n s) = pos (q * column-weight + z)
 
--- "of all fitting positions the one with least n / s", or none where "no position fits"
-abbrev pub Chooses : Device → Book → List ℕ → Best → Type 0
-Chooses d b t Nothing = (chosen d b t ≡ nothing) × (no-position d b t ≡ true)
-Chooses d b t (At q z n s) = ChosenAt d b t q z n s
+-- the position is on a device within the limits
+abbrev pub Near : Best → Type 0
+Near Nothing = Unit {0}
+Near (At q z n s) = (q < max-columns) × (z < 2 * max-rows)
+
+-- the answer of the model's call on the book: "of all fitting positions the one with least n / s", with its n and s, or none
+pub record Chooses (d : Device) (b : Book) (t : List ℕ) (e : Best) : Type 0 where
+  pub answer-is : answer-of e ≡ on-book d b (choose t) .answer
+  pub position-is : Is (judge d b t) (chosen d b t) e
+  pub near : Near e

@@ -5,12 +5,13 @@ use mathlib.Core.Bool.{true, cond}
 use mathlib.Core.Option.{Option, none, some}
 use mathlib.Core.List.{List, [], _∷_}
 use lib.Dec.{ltb}
-use lib.IntN.{ℤ, pos, negℤ}
+use lib.IntN.{ℤ}
 use lib.ListN.{length, take, drop}
 use Rattle.model.specs.Limits.{max-sheet}
 use Rattle.model.specs.Columns.{Device, device-ok}
 use Rattle.model.specs.Record.{record-of}
 use Rattle.model.specs.OnRecord.{new}
+use Rattle.model.specs.Sheet.{line-answer}
 use Rattle.model.specs.Program.{says, malformed, first, on-lines, lines}
 use Rattle.card.specs.Leaves.{Changes}
 use Rattle.desk.specs.declared.input.Begun.{Begun}
@@ -24,7 +25,7 @@ pub record Ends (input : List ℕ) (at end : ℕ) : Type 0 where
 
 -- a card for the device of a line, as new makes it, or −12 where the line says none
 abbrev pub Opens : Option Device → List ℕ → ℤ → List ℕ → Type 0
-Opens none r a r′ = a ≡ negℤ (pos 12)
+Opens none r a r′ = a ≡ line-answer {A = Device} none
 Opens (some d) r a r′ = Changes (new r (d .rows) (d .kinds)) a r′
 
 -- what the program prints on an empty card of device d, from the fourth line on or with a fault in lines 1 to 3

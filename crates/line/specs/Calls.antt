@@ -1,13 +1,14 @@
 -- What a line that was read says, in terms of the model's calls. Assumes nothing.
 use Prim.Native.Nat.{ℕ}
 use Prim.Native.Char.{code}
+use mathlib.Core.Path.{_≡_}
 use mathlib.Core.Bool.{Bool, _&&_}
 use mathlib.Core.List.{[], _∷_}
 use mathlib.Core.Option.{Option, none, some}
 use lib.Dec.{eqb}
-use lib.IntN.{ℤ, pos, negsuc}
+use lib.IntN.{ℤ, pos, negℤ}
 use Rattle.model.specs.Kinds.{number-of}
-use Rattle.model.specs.Sheet.{SheetCall, add-block, empty-draft, list-draft, choose-draft, place-draft, release-task, is, nought, with-some, provided, kind-letter}
+use Rattle.model.specs.Sheet.{SheetCall, add-block, empty-draft, list-draft, choose-draft, place-draft, release-task, is, nought, with-some, provided, kind-letter, line-answer}
 use Rattle.line.specs.declared.call.Call.{Call}
 use Rattle.line.specs.declared.call.Call.the-variants.{Block, Clear, List, Choose, Place, Release}
 use Rattle.line.specs.declared.call.Line.{Line}
@@ -26,10 +27,15 @@ abbrev pub said : Line → Option SheetCall
 said (Does call) = some (call-said call)
 said Malformed = none
 
--- "line reader: the line is malformed": −12
+-- document 01's number of each case: "−12: line reader: the line is malformed"
 abbrev pub answer-of : Line → ℤ
 answer-of (Does call) = pos 0
-answer-of Malformed = negsuc 11
+answer-of Malformed = negℤ (pos 12)
+
+-- r is the answer for a line that the model reads as o: it says that call, and its number is the line reader's
+pub record Says (r : Line) (o : Option SheetCall) : Type 0 where
+  pub call-is : said r ≡ o
+  pub answer-is : answer-of r ≡ line-answer o
 
 -- a block call by its fields: its kind is a letter, and its task is unused
 unfoldable pub block-said : ℕ → ℕ → ℕ → ℤ → ℤ → Option SheetCall

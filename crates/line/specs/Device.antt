@@ -1,11 +1,13 @@
 -- What is read from the first three lines, in terms of the model's device. Assumes nothing.
 use Prim.Native.Nat.{ℕ}
+use mathlib.Core.Path.{_≡_}
 use mathlib.Core.Bool.{Bool, true, false}
 use mathlib.Core.Option.{Option, none, some}
 use mathlib.Core.List.{List, [], _∷_, _++_}
+use lib.IntN.{ℤ, pos, negℤ}
 use lib.ListN.{length, drop}
 use Rattle.model.specs.Columns.{Device}
-use Rattle.model.specs.Sheet.{kind-letter}
+use Rattle.model.specs.Sheet.{kind-letter, line-answer}
 use Rattle.line.specs.declared.device.Rows.{Rows}
 use Rattle.line.specs.declared.device.Rows.the-variants as rows
 
@@ -34,3 +36,14 @@ rows-of (some d) = rows.Device (d .rows) (length (d .kinds))
 abbrev pub kinds-left : Option Device → List ℕ → List ℕ
 kinds-left none lent = lent
 kinds-left (some d) lent = d .kinds ++ drop (length (d .kinds)) lent
+
+-- document 01's number of each case: "−12: line reader: the line is malformed"
+abbrev pub answer-of : Rows → ℤ
+answer-of (rows.Device n k) = pos 0
+answer-of rows.Malformed = negℤ (pos 12)
+
+-- r is the answer for a line that the model reads as o, with the line reader's number, and `left` is what it leaves in the lent bytes
+pub record Reads (o : Option Device) (r : Rows) (lent left : List ℕ) : Type 0 where
+  pub rows-is : r ≡ rows-of o
+  pub answer-is : answer-of r ≡ line-answer o
+  pub kinds-is : left ≡ kinds-left o lent

@@ -2,7 +2,7 @@
 ghost use mathlib.Core.Path.{_≡_};
 ghost use mathlib.Core.List.{[], _∷_};
 ghost use Rattle.model.specs.Sheet.{provided, call-of, sheet-line};
-ghost use Rattle.line.specs.Calls.{call-said, said, kind-unused, only-task, none-used, block-said};
+ghost use Rattle.line.specs.Calls.{call-said, said, Says, kind-unused, only-task, none-used, block-said};
 use crate::MAX_COLUMN_FIELD;
 use crate::MAX_LINE;
 use crate::MAX_TASK_FIELD;
@@ -127,7 +127,7 @@ fn meaning(letter: u8, task: u16, column: u8, kind: u8, bottom: i16, top: i16) -
 
 // The call of a sheet line, without its newline.
 pub fn read(line: &[u8]) -> Line
-    ensures { λ r. ⌜ said r ≡ sheet-line (now (line .entry)) ⌝ }
+    ensures { λ r. ⌜ Says r (sheet-line (now (line .entry))) ⌝ }
 {
     if MAX_LINE < line.len() {
         return Line::Malformed;

@@ -6,7 +6,7 @@ ghost use Rattle.model.specs.Limits.{max-line};
 ghost use Rattle.model.specs.Laws.Parts.{splice};
 ghost use Rattle.model.specs.Sheet.{first-names, second-names, kind-letters, device-line};
 ghost use Rattle.words.specs.Words.{Same};
-ghost use Rattle.line.specs.Device.{known, kind-or-zero, kinds-of, rows-of, kinds-left};
+ghost use Rattle.line.specs.Device.{known, kind-or-zero, kinds-of, Reads};
 use crate::MAX_LINE;
 use crate::MAX_ROWS_FIELD;
 use crate::fields;
@@ -72,7 +72,7 @@ fn put_kinds(letters: &[u8], kinds: &mut [u8])
 // The device of a line: its kinds go to the front of `kinds`, which stays as it was where the line is malformed.
 pub fn rows_line(line: &[u8], kinds: &mut [u8]) -> Rows
     requires { ⌜ max-line ≤ length (now kinds) ⌝ }
-    ensures { λ r. ⌜ (r ≡ rows-of (device-line (now (line .entry)))) × (now (kinds .exit) ≡ kinds-left (device-line (now (line .entry))) (now (kinds .entry))) ⌝ }
+    ensures { λ r. ⌜ Reads (device-line (now (line .entry))) r (now (kinds .entry)) (now (kinds .exit)) ⌝ }
 {
     if MAX_LINE < line.len() {
         return Rows::Malformed;

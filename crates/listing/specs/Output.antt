@@ -1,18 +1,18 @@
 -- The bytes of a listing, and what `list` answers. Assumes nothing.
 use Prim.Native.Nat.{ℕ, _+_, _*_, _≤_, _<_}
 use mathlib.Core.Path.{_≡_}
-use mathlib.Core.Bool.{true, false}
 use mathlib.Core.List.{List, map}
-use lib.ListN.{length, getD}
+use lib.IntN.{ℤ, pos, negℤ}
+use lib.ListN.{getD}
 use Rattle.runs.specs.Runs.{Run}
 use Rattle.model.specs.Limits.{words, range-size}
 use Rattle.model.specs.Bounded.{join-in, join-below}
 use Rattle.model.specs.Columns.{Device}
 use Rattle.model.specs.Tasks.{step}
 use Rattle.model.specs.Book.{Book}
-use Rattle.model.specs.Listing.{Range, range-of, ranges}
+use Rattle.model.specs.Listing.{Range, range-of}
 use Rattle.model.specs.Record.{device-of, book-of}
-use Rattle.model.specs.Calls.{range-bytes, over, no-position}
+use Rattle.model.specs.Calls.{list, range-bytes, on-book}
 use Rattle.listing.specs.Arrays.{max-runs, Room}
 use Rattle.listing.specs.Columns.{ranges-in}
 use Rattle.listing.specs.declared.output.Listed.{Listed}
@@ -43,8 +43,12 @@ column-bytes p s L = join-in range-bytes (map (range-of p s) L)
 abbrev pub ranges-below : List ℕ → List ℕ → ℕ → List Range
 ranges-below r t p = join-below p (λ q. map (range-of q (step t)) (ranges-in (device-of r) (book-of r) t q))
 
--- what `list` answers, and its output before and after: "The answer is their number; bytes after them stay." "−9: no position fits"
-abbrev pub Answers : Listed → Device → Book → List ℕ → List ℕ → List ℕ → Type 0
-Answers (Ranges n) d b t o o′ =
-    (n ≡ length (ranges d b t)) × (o′ ≡ over (join-in range-bytes (ranges d b t)) o) × (no-position d b t ≡ false) × (1 ≤ n)
-Answers NoPosition d b t o o′ = (no-position d b t ≡ true) × (o′ ≡ o)
+-- document 01's number of each case: "The answer is their number"; "−9: no position fits"
+abbrev pub answer-of : Listed → ℤ
+answer-of (Ranges n) = pos n
+answer-of NoPosition = negℤ (pos 9)
+
+-- what `list` answers, and its output before and after, by the model's call on the book
+pub record Answers (a : Listed) (d : Device) (b : Book) (t o o′ : List ℕ) : Type 0 where
+  pub answer-is : answer-of a ≡ on-book d b (list t o) .answer
+  pub output-is : o′ ≡ on-book d b (list t o) .output

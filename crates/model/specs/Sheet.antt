@@ -6,7 +6,7 @@ use mathlib.Core.Bool.{Bool, true, false, not, cond, _&&_, _||_}
 use mathlib.Core.Option.{Option, none, some}
 use mathlib.Core.List.{List, [], _∷_, _++_}
 use lib.Dec.{leb, ltb, eqb}
-use lib.IntN.{ℤ, pos, negsuc}
+use lib.IntN.{ℤ, pos, negsuc, negℤ}
 use lib.Signed.{leZ}
 use lib.ListN.{length, getD}
 use Rattle.model.specs.Limits.{max-line, max-task-field, max-rows-field, max-column-field, max-height-field}
@@ -125,6 +125,13 @@ six fs =
 -- one line, without its newline: "a line has at most 80 bytes", "A line of any other form is malformed."
 unfoldable pub sheet-line : List ℕ → Option SheetCall
 sheet-line l = let read = six (fields l) in cond (leb (length l) max-line && eqb (length (fields l)) 6) read none
+
+-- ---- the answer
+
+-- "−12: line reader: the line is malformed": the answer for what a line, a call's or the device's, is read as; 0 where it is no refusal
+abbrev pub line-answer : {A : Type 0} → Option A → ℤ
+line-answer none = negℤ (pos 12)
+line-answer (some a) = pos 0
 
 -- ---- the first three lines
 

@@ -1,7 +1,9 @@
 -- `choose_task`: −9, or the number of the best position. Assumes nothing.
 use borrow.Author.Needs.{needs}
+use mathlib.Core.Path.{ap}
 use native.Mathlib.Omega.{arith}
-use Rattle.card.specs.Laws.Positions.{choose-none, choose-few, choose-done}
+use Rattle.choice.specs.Choosing.{answer-of}
+use Rattle.card.specs.Laws.Positions.{choose-answers, choose-few, choose-number}
 use Rattle.card.proofs.choose_task.Statement.{statement}
 use Rattle.card.proofs.choose_task.Tie as tie
 
@@ -33,12 +35,14 @@ returns : tie.Need-returns
 returns c =
     let b = c .before .before in
     let a = b .before .before in
-    choose-none _ _ (a .before .pre) _ (b .best-position .ensures) (λ i. omega (arith, a .shared-slice-known .given i)) (c .enum-told .given .1)
+    choose-answers _ _ (a .before .pre) _ (b .best-position .ensures) (λ i. omega (arith, a .shared-slice-known .given i)) (ap answer-of (c .enum-told .given .1))
 
 returns-2 : tie.Need-returns-2
 returns-2 c =
     let b = c .before .before .before in
-    choose-done _ _ (b .before .before .before .pre) _ (b .best-position .ensures) _ _ _ _ (c .before .column .given .1)
+    let a = b .before .before in
+    choose-answers _ _ (a .before .pre) _ (b .best-position .ensures) (λ i. omega (arith, a .shared-slice-known .given i))
+    (choose-number _ _ (a .before .pre) _ (b .best-position .ensures) _ _ _ _ (c .before .column .given .1))
 
 pub choose-task-spec : {M : Type 1} → statement M
 choose-task-spec =

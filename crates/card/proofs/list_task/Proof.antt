@@ -1,7 +1,9 @@
 -- `list_task`: −6, −9, or the ranges and their number. Assumes nothing.
 use borrow.Author.Needs.{needs}
+use mathlib.Core.Path.{ap}
 use native.Mathlib.Omega.{arith}
-use Rattle.card.specs.Laws.Positions.{list-short, list-none, list-fits, list-done}
+use Rattle.listing.specs.Output.{answer-of}
+use Rattle.card.specs.Laws.Positions.{list-short, list-answers, list-fits, list-number}
 use Rattle.card.proofs.list_task.Statement.{statement}
 use Rattle.card.proofs.list_task.Tie as tie
 
@@ -34,7 +36,9 @@ returns-2 : tie.Need-returns-2
 returns-2 c =
     let m = c .before .before .before .before .before in
     let l = m .before .before in
-    list-done _ _ _ (l .before .before .before .before .pre) (l .if1 .left) _ _ (m .list .ensures) _ (c .before .count .given .1)
+    let a = l .before .before .before in
+    list-answers _ _ _ (a .before .pre) (l .if1 .left) _ _ (m .list .ensures) (λ i. omega (arith, a .shared-slice-known .given i))
+    (list-number _ _ _ (a .before .pre) (l .if1 .left) _ _ (m .list .ensures) _ (c .before .count .given .1))
 
 same-length-2 : tie.Need-same-length-2
 same-length-2 c = search needs
@@ -44,7 +48,7 @@ returns-3 c =
     let m = c .before .before .before .before in
     let l = m .before .before in
     let a = l .before .before .before in
-    list-none _ _ _ (a .before .pre) (l .if1 .left) _ _ (m .list .ensures) (λ i. omega (arith, a .shared-slice-known .given i)) (c .enum-told .given .1)
+    list-answers _ _ _ (a .before .pre) (l .if1 .left) _ _ (m .list .ensures) (λ i. omega (arith, a .shared-slice-known .given i)) (ap answer-of (c .enum-told .given .1))
 
 pub list-task-spec : {M : Type 1} → statement M
 list-task-spec =

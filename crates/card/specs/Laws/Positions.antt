@@ -1,9 +1,10 @@
 -- List and choose, return by return. Assumes nothing.
 use Prim.Native.Nat.{ℕ, _+_, _*_, _≤_, _<_}
 use mathlib.Core.Path.{_≡_, refl, sym, ap, _∙_}
+use mathlib.Core.Bool.{true}
 use mathlib.Core.List.{List}
 use native.Mathlib.Omega.{arith}
-use borrow.Author.Tests.{lt-ltb, le-ltb}
+use borrow.Author.Tests.{lt-ltb}
 use lib.IntN.{ℤ, pos, negsuc}
 use lib.ListN.{length}
 use mir.Syntax.{w32}
@@ -12,27 +13,32 @@ use mir.Facts.{toZ-pos}
 use Rattle.model.specs.Limits.{max-rows, max-columns, max-intervals, list-room, column-weight}
 use Rattle.model.specs.Columns.{columns}
 use Rattle.model.specs.Tasks.{sized}
-use Rattle.model.specs.Choice.{Found as Place}
 use Rattle.model.specs.Record.{device-of, book-of}
 use Rattle.model.specs.Sound.{sound}
-use Rattle.model.specs.Calls.{list, choose, lent, refused, refusals, position-number, done}
+use Rattle.model.specs.Calls.{Call, list, choose, lent, refused, refusals, on-book}
 use Rattle.model.specs.OnRecord.{written, on-record}
 use Rattle.model.specs.Laws.WriteBack.{Bytes}
 use Rattle.model.specs.Laws.Limits.{limits-to}
 use Rattle.model.specs.Laws.Listing.{ranges-length}
-use Rattle.model.specs.Laws.Sound.{sound-within}
-use Rattle.model.specs.Laws.OnRecord.{refused-call, done-call}
+use Rattle.model.specs.Laws.Sound.{sound-within, sound-record}
+use Rattle.model.specs.Laws.OnRecord.{refused-call}
+use Rattle.model.specs.Laws.Step.{same-step}
 use Rattle.listing.specs.Columns.{Given}
-use Rattle.listing.specs.Output.{Answers}
+use Rattle.listing.specs.Output.{answer-of, Answers}
+use Rattle.listing.specs.Laws.Output.{count-is}
 use Rattle.listing.specs.declared.output.Listed.{Listed}
-use Rattle.listing.specs.declared.output.Listed.the-variants.{Ranges, NoPosition}
-use Rattle.choice.specs.Choosing.{Chooses}
+use Rattle.listing.specs.declared.output.Listed.the-variants.{Ranges}
+use Rattle.choice.specs.Choosing.{answer-of as best-answer, Chooses}
 use Rattle.choice.specs.declared.Best.{Best}
-use Rattle.choice.specs.declared.Best.the-variants.{Nothing, At as BestAt}
+use Rattle.choice.specs.declared.Best.the-variants.{At as BestAt}
 use Rattle.card.specs.declared.Check.{Check}
 use Rattle.card.specs.declared.Check.the-variants.{Refuse}
 use Rattle.card.specs.Leaves.{Writes, ChecksTask}
 use Rattle.card.specs.Laws.Answers.{answers, writes}
+
+-- a call on a sound record is the call on its book
+on-sound : (r : List ℕ) → Bytes r → sound r ≡ true → (c : Call) → on-record r c ≡ written (device-of r) (on-book (device-of r) (book-of r) c)
+on-sound r B s c = ap (λ (q : List ℕ). on-record q c) (sound-record r B s) ∙ same-step (device-of r) (book-of r) c (sound-within r s)
 
 -- ---- list
 
@@ -47,28 +53,23 @@ module _ (r t o : List ℕ) (x : Given r t) where
   list-short B h = writes (refused-call r (list t o) (x .sound) B 6 (rw (x .sized, x .formed, lt-ltb (length o) list-room h)))
 
   module _ (l : list-room ≤ length o) (a : Listed) (p : List ℕ) (h : Answers a (device-of r) (book-of r) t o p) where
-    pub list-none : Bytes r → a ≡ NoPosition → Writes (on-record r (list t o)) (negsuc 8) p
-    unfolding refused refusals lent
-    list-none B e =
-        let (nowhere, same) = rw e at h in
-        rw same (writes (refused-call r (list t o) (x .sound) B 9 (rw (x .sized, x .formed, le-ltb (length o) list-room l, nowhere))))
+    -- the answer of each case
+    pub list-answers : Bytes r → {z : ℤ} → answer-of a ≡ z → Writes (on-record r (list t o)) z p
+    unfolding written
+    list-answers B e = let q = on-sound r B (x .sound) (list t o) in record { answer-is = rw q (sym e ∙ h .answer-is); output-is = rw q (h .output-is) }
 
     -- there are at most 64 ranges in each column
     few-ranges : (n : ℕ) → a ≡ Ranges n → n ≤ max-intervals * max-columns
     few-ranges n e =
         let w = sound-within r (x .sound) in
         let cols = limits-to (device-of r) (book-of r) w .columns in
-        omega (arith, (rw e at h) .0, ranges-length (device-of r) (book-of r) t (x .sized) w)
+        omega (arith, count-is r t x o l n p (rw e at h), ranges-length (device-of r) (book-of r) t (x .sized) w)
 
     pub list-fits : (n : ℕ) → a ≡ Ranges n → SFits w32 (pos n)
     list-fits n e = record { sfits = omega (arith, few-ranges n e) }
 
-    pub list-done : (n : ℕ) → a ≡ Ranges n → Writes (on-record r (list t o)) (toZ w32 n) p
-    unfolding refused refusals written done
-    list-done n e =
-        let (count, bytes, some-fit, one) = rw e at h in
-        rw (toZ-pos w32 {n = n} (omega (arith, few-ranges n e)), bytes, count)
-        (writes (done-call r (list t o) (x .sound) (rw (x .sized, x .formed, le-ltb (length o) list-room l, some-fit))))
+    pub list-number : (n : ℕ) → a ≡ Ranges n → answer-of a ≡ toZ w32 n
+    list-number n e = rw e (sym (toZ-pos w32 {n = n} (omega (arith, few-ranges n e))))
 
 -- ---- choose
 
@@ -77,19 +78,15 @@ pub choose-refused : (r t : List ℕ) {z : ℤ} (x : Check) → ChecksTask r t x
 choose-refused r t x h e = answers ((rw e at h) (choose t) refl)
 
 module _ (r t : List ℕ) (x : Given r t) (a : Best) (h : Chooses (device-of r) (book-of r) t a) where
-  pub choose-none : Bytes r → a ≡ Nothing → negsuc 8 ≡ on-record r (choose t) .answer
-  unfolding refused refusals
-  choose-none B e = answers (refused-call r (choose t) (x .sound) B 9 (rw (x .sized, x .formed, (rw e at h) .1)))
+  -- the answer of each case
+  pub choose-answers : Bytes r → {z : ℤ} → best-answer a ≡ z → z ≡ on-record r (choose t) .answer
+  unfolding written
+  choose-answers B e = rw (on-sound r B (x .sound) (choose t)) (sym e ∙ h .answer-is)
 
   module _ (q z n s : ℕ) (e : a ≡ BestAt q z n s) where
     -- column × 1,024 + bottom is small
     pub choose-few : (q < max-columns) × (z < 2 * max-rows)
-    choose-few = let c = rw e at h in (c .column-small, c .bottom-small)
+    choose-few = (rw e at h) .near
 
-    pub choose-done : toZ w32 (q * column-weight + z) ≡ on-record r (choose t) .answer
-    unfolding refused refusals written done position-number
-    choose-done =
-        let c = rw e at h in
-        toZ-pos w32 {n = q * column-weight + z} (omega (arith, choose-few))
-        ∙ ap (λ (f : Place). pos (position-number f)) (sym (c .chosen))
-        ∙ answers (done-call r (choose t) (x .sound) (rw (x .sized, x .formed, c .some-position)))
+    pub choose-number : best-answer a ≡ toZ w32 (q * column-weight + z)
+    choose-number = rw e (sym (toZ-pos w32 {n = q * column-weight + z} (omega (arith, choose-few))))

@@ -6,19 +6,20 @@ use mathlib.Core.Bool.{true, false}
 use mathlib.Core.List.{List}
 use native.Mathlib.Omega.{arith}
 use native.Mathlib.Numerals.{add-one}
+use lib.IntN.{pos, negℤ}
 use lib.ListN.{length, getD, take, length-take}
 use lib.Seq.{getD-take}
 use Rattle.runs.specs.Laws.Tests.{lt-or-ge}
 use Rattle.runs.specs.Runs.{Run, run, Mem, Lists}
 use Rattle.runs.specs.Laws.Runs.{runs-lists}
 use Rattle.runs.specs.Laws.Places.{run-named, run-at, none-before, none-between, next-above, start-past}
-use Rattle.model.specs.Limits.{max-columns, columns-at}
+use Rattle.model.specs.Limits.{max-columns, columns-at, column-weight}
 use Rattle.model.specs.Columns.{Device, columns, half-rows}
 use Rattle.model.specs.Tasks.{blocks, well-formed, step}
 use Rattle.model.specs.Book.{Book, fits}
 use Rattle.model.specs.Choice.{judge, nothing, at, climb, choice, chosen}
 use Rattle.model.specs.Record.{device-of, book-of}
-use Rattle.model.specs.Calls.{no-position}
+use Rattle.model.specs.Calls.{choose, no-position, position-number, refused, refusals, unless, done, on-book}
 use Rattle.model.specs.Laws.Bounded.{clash, is-false}
 use Rattle.model.specs.Laws.Fits.{fits-below}
 use Rattle.model.specs.Laws.Steps.{step-bounds, fits-steps}
@@ -163,6 +164,17 @@ module _ (d : Device) (b : Book) (t : List ℕ) where
 pub column-count : (r t : List ℕ) → Given r t → (n : ℕ) → n ≡ getD r columns-at 0 → (n ≡ columns (device-of r)) × (1 ≤ n) × (n ≤ max-columns)
 column-count r t a n e = omega (arith, columns-said r, some-columns r (a .sound), few-columns r (a .sound))
 
+-- choose on the book: of its refusals only −9 can apply
+module _ (r t : List ℕ) (a : Given r t) where
+  nowhere : no-position (device-of r) (book-of r) t ≡ true → negℤ (pos 9) ≡ on-book (device-of r) (book-of r) (choose t) .answer
+  unfolding on-book unless refused refusals
+  nowhere e = rw (a .sized, a .formed, e)
+
+  somewhere : (q z : ℕ) → no-position (device-of r) (book-of r) t ≡ false → chosen (device-of r) (book-of r) t ≡ at q z
+      → pos (q * column-weight + z) ≡ on-book (device-of r) (book-of r) (choose t) .answer
+  unfolding on-book unless refused refusals done position-number
+  somewhere q z e f = rw (a .sized, a .formed, e, f)
+
 -- THEOREM: what is found in all columns is the choice
 pub chooses : (r t : List ℕ) → Given r t → (p : ℕ) (e : Best) → columns (device-of r) ≤ p → Best-of (device-of r) (book-of r) t p e → Chooses (device-of r) (book-of r) t e
 unfolding chosen judge
@@ -177,22 +189,12 @@ chooses r t a p e l h = let q : p ≡ columns (device-of r) = omega (arith, h .w
     n : 1 ≤ blocks t
     n = some-blocks r t a
 
-    nowhere : (chosen d b t ≡ nothing) → no-position d b t ≡ true
-    nowhere = chosen-nothing-iff d b t (a .formed) n .0
-
-    somewhere : (q z : ℕ) → chosen d b t ≡ at q z → no-position d b t ≡ false
-    somewhere q z e = is-false (no-position d b t) (λ k. let f = chosen-nothing-iff d b t (a .formed) n .1 k in let z : _≡_ {A = ℕ} 0 1 = cc in omega arith)
+    some-position : (q z : ℕ) → chosen d b t ≡ at q z → no-position d b t ≡ false
+    some-position q z e = is-false (no-position d b t) (λ k. let f = chosen-nothing-iff d b t (a .formed) n .1 k in let z : _≡_ {A = ℕ} 0 1 = cc in omega arith)
 
     go : (e : Best) → Is (judge d b t) (choice (judge d b t) (half-rows d) (columns d)) e → Chooses d b t e
-    go Nothing f = (f, nowhere f)
+    go Nothing f = record { answer-is = nowhere r t a (chosen-nothing-iff d b t (a .formed) n .0 f); position-is = f; near = tt }
     go (At q z m s) (f, en, es) =
         let at = chosen-at d b t (a .formed) n q z f in
         let m = limits-to d b (sound-within r (a .sound)) in
-        record {
-          chosen = f;
-          pieces = en;
-          stretch = es;
-          some-position = somewhere q z f;
-          column-small = omega (arith, at .column, m .columns);
-          bottom-small = omega (arith, at .bottom, m .rows);
-        }
+        record { answer-is = somewhere r t a q z (some-position q z f) f; position-is = (f, en, es); near = omega (arith, at .column, at .bottom, m .columns, m .rows) }

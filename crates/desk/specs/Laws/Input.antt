@@ -23,7 +23,7 @@ use Rattle.model.specs.Laws.Kept.{within-new}
 use Rattle.model.specs.Columns.{Device, device-ok}
 use Rattle.model.specs.OnRecord.{new}
 use Rattle.line.specs.Fields.{until}
-use Rattle.line.specs.Device.{rows-of, kinds-left}
+use Rattle.line.specs.Device.{answer-of, Reads}
 use Rattle.line.specs.declared.device.Rows.the-variants as rows
 use Rattle.card.specs.Leaves.{Changes}
 use Rattle.desk.specs.declared.input.Begun.{Begun}
@@ -79,22 +79,23 @@ ends s at end h q e =
 
 -- ---- the second line
 
-pub said-none : (o : Option Device) → rows-of o ≡ rows.Malformed → o ≡ none
-said-none none e = refl
-said-none (some d) e = let z : _≡_ {A = ℕ} 0 1 = cc in absurd (omega arith)
+-- a malformed line has the line reader's number
+pub opens-none : (o : Option Device) {lent kinds : List ℕ} (r : List ℕ) → Reads o rows.Malformed lent kinds → Opens o r (answer-of rows.Malformed) r
+opens-none none r h = h .answer-is
+opens-none (some d) r h = let z : _≡_ {A = ℕ} 0 1 = cc (h .rows-is) in absurd (omega arith)
 
 -- the kinds stand in front of the lent bytes
-pub count-fits : (o : Option Device) {n k : ℕ} {kinds : List ℕ} (lent : List ℕ) → rows-of o ≡ rows.Device n k → kinds ≡ kinds-left o lent → k ≤ length kinds
-count-fits none lent e q = let z : _≡_ {A = ℕ} 0 1 = cc in absurd (omega arith)
-count-fits (some d) {n} {k} lent e q = let m : length (d .kinds) ≡ k = cc in rw q (omega (arith, length-append (d .kinds) (drop (length (d .kinds)) lent)))
+pub count-fits : (o : Option Device) {n k : ℕ} {lent kinds : List ℕ} → Reads o (rows.Device n k) lent kinds → k ≤ length kinds
+count-fits none h = let z : _≡_ {A = ℕ} 0 1 = cc (h .rows-is) in absurd (omega arith)
+count-fits (some d) {n} {k} {lent} h = let m : length (d .kinds) ≡ k = cc (h .rows-is) in rw (h .kinds-is) (omega (arith, length-append (d .kinds) (drop (length (d .kinds)) lent)))
 
-pub opens-some : (o : Option Device) {n k : ℕ} {kinds : List ℕ} (lent r : List ℕ) {r′ : List ℕ} {a : ℤ} → rows-of o ≡ rows.Device n k → kinds ≡ kinds-left o lent
+pub opens-some : (o : Option Device) {n k : ℕ} {lent kinds : List ℕ} (r : List ℕ) {r′ : List ℕ} {a : ℤ} → Reads o (rows.Device n k) lent kinds
     → Changes (new r n (take k kinds)) a r′ → Opens o r a r′
-opens-some none lent r e q h = let z : _≡_ {A = ℕ} 0 1 = cc in absurd (omega arith)
-opens-some (some d) {n} {k} lent r e q h =
-    let m : k ≡ length (d .kinds) = cc in
-    let l : n ≡ d .rows = cc in
-    rw (l, q, m, take-at (d .kinds) (drop (length (d .kinds)) lent) (length (d .kinds)) refl) at h
+opens-some none r x h = let z : _≡_ {A = ℕ} 0 1 = cc (x .rows-is) in absurd (omega arith)
+opens-some (some d) {n} {k} {lent} r x h =
+    let m : k ≡ length (d .kinds) = cc (x .rows-is) in
+    let l : n ≡ d .rows = cc (x .rows-is) in
+    rw (l, x .kinds-is, m, take-at (d .kinds) (drop (length (d .kinds)) lent) (length (d .kinds)) refl) at h
 
 -- ---- lines 1 to 3
 

@@ -21,9 +21,11 @@ use Rattle.model.specs.Program.{Desk, Left, says, block-bytes, answered, listed
 use Rattle.model.specs.Laws.Parts.{splice, length-splice}
 use Rattle.model.specs.Laws.Kept.{kept}
 use Rattle.line.specs.Block.{call-bytes}
-use Rattle.line.specs.Calls.{call-said}
+use Rattle.line.specs.Calls.{call-said, answer-of, Says}
 use Rattle.line.specs.declared.call.BlockCall.{BlockCall}
+use Rattle.line.specs.declared.call.Call.{Call as LineCall}
 use Rattle.line.specs.declared.call.Call.the-variants.{Block}
+use Rattle.line.specs.declared.call.Line.the-variants.{Does, Malformed}
 use Rattle.desk.specs.Desk.{draft-room, desk-of, Shows, Drafted, Card, Leaves, Answers, Adds}
 use Rattle.desk.specs.Laws.Card.{card-of, on-card}
 use Rattle.desk.specs.Laws.Shows.{shows-none}
@@ -78,15 +80,15 @@ module _ (r : List ℕ) (k : Card r) (number : ℕ) (draft : List ℕ) (used : �
       go (pos n) s = leaves-same s
       go (negsuc n) s = leaves-same s
 
-  -- a malformed line, and a line that says a call
-  pub leaves-malformed : (l : List ℕ) {out : List ℕ} {printed : ℕ} → sheet-line l ≡ none → Shows out printed (says number (negsuc 11))
+  -- a malformed line, with the line reader's number, and a line that says a call
+  pub leaves-malformed : (l : List ℕ) {out : List ℕ} {printed : ℕ} → Says Malformed (sheet-line l) → Shows out printed (says number (answer-of Malformed))
       → Leaves (on-line number (desk-of r (take used draft)) l) r draft used out printed
   unfolding on-line
-  leaves-malformed l q s = rw q (leaves-same s)
+  leaves-malformed l q s = rw (← q .call-is) (leaves-same s)
 
-pub line-does : (number : ℕ) (k : Desk) (l : List ℕ) {c : SheetCall} → sheet-line l ≡ some c → on-line number k l ≡ on-call number k c
+pub line-does : (number : ℕ) (k : Desk) (l : List ℕ) {c : LineCall} → Says (Does c) (sheet-line l) → on-line number k l ≡ on-call number k (call-said c)
 unfolding on-line
-line-does number k l q = rw q
+line-does number k l q = rw (← q .call-is)
 
 -- the draft emptied
 pub leaves-emptied : (r : List ℕ) → Card r → (number : ℕ) (draft : List ℕ) (used : ℕ) → Drafted draft used → (t out : List ℕ)

@@ -16,7 +16,7 @@ use Rattle.model.specs.Limits.{max-line, max-number, max-column-field}
 use Rattle.model.specs.Sheet.{SheetCall, with-some, provided, fields, is, nought, natural, number, natural-field, height-field, kind-field, call-of, six, sheet-line}
 use Rattle.line.specs.Fields.{word, after, one-byte, natural-with, height-with, byte-at, natural-at, height-at}
 use Rattle.line.specs.Laws.Fields.{cond-same, and-right, start, field-is, fields-more, fields-less, field-there}
-use Rattle.line.specs.Calls.{said, answer-of}
+use Rattle.line.specs.Calls.{said, Says}
 use Rattle.line.specs.declared.call.Line.{Line}
 use Rattle.line.specs.declared.call.Line.the-variants.{Does, Malformed}
 use Rattle.line.specs.declared.fields.One.the-variants as one
@@ -244,11 +244,7 @@ module _ (s : List ℕ) where
 
 -- ---- the answer
 
--- a line that says nothing is answered by −12, and only such a line
-pub malformed-answer : (r : Line) → said r ≡ none → answer-of r ≡ negsuc 11
-malformed-answer (Does call) e = cc
-malformed-answer Malformed e = refl
-
-pub answer-malformed : (r : Line) → answer-of r ≡ negsuc 11 → said r ≡ none
-answer-malformed (Does call) e = cc
-answer-malformed Malformed e = refl
+-- what an answer says gives its number
+pub says : (r : Line) {o : Option SheetCall} → said r ≡ o → Says r o
+says (Does call) e = record { call-is = e; answer-is = rw (← e) }
+says Malformed e = record { call-is = e; answer-is = rw (← e) }

@@ -16,7 +16,7 @@ use Rattle.model.specs.Limits.{max-line, max-number}
 use Rattle.model.specs.Columns.{Device}
 use Rattle.model.specs.Sheet.{with-some, fields, natural-field, kind-letter, kind-letters, kinds-field, device-line}
 use Rattle.line.specs.Fields.{word, natural-at}
-use Rattle.line.specs.Device.{known, or-zero, kind-or-zero, kinds-of, rows-of, kinds-left}
+use Rattle.line.specs.Device.{known, or-zero, kind-or-zero, kinds-of, Reads}
 use Rattle.line.specs.Laws.Fields.{cond-same, and-right, start, field-is, fields-more, fields-less, field-part, after-is, until-none}
 use Rattle.line.specs.Laws.Calls.{natural-lost}
 use Rattle.line.specs.declared.device.Rows.the-variants as rows
@@ -142,13 +142,13 @@ module _ (s : List ℕ) where
 
 -- what the code answers and leaves
 module _ (s lent : List ℕ) where
-  pub answers-none : device-line s ≡ none → (rows.Malformed ≡ rows-of (device-line s)) × (lent ≡ kinds-left (device-line s) lent)
-  answers-none e = rw e (refl, refl)
+  pub answers-none : device-line s ≡ none → Reads (device-line s) rows.Malformed lent lent
+  answers-none e = rw e (record { rows-is = refl; answer-is = refl; kinds-is = refl })
 
   pub answers-device : (at : ℕ) {n : ℕ} {lent′ : List ℕ} → device-line s ≡ some (record { rows = n; kinds = kinds-of (drop at s) }) → lent′ ≡ splice lent 0 (length (drop at s)) (kinds-of (drop at s))
-      → (rows.Device n (length s - at) ≡ rows-of (device-line s)) × (lent′ ≡ kinds-left (device-line s) lent)
+      → Reads (device-line s) (rows.Device n (length s - at)) lent lent′
   unfolding splice
-  answers-device at e p = rw (e, p, length-kinds (drop at s)) (rw (length-drop at s), refl)
+  answers-device at e p = let l = length-kinds (drop at s) in rw (e, p) (record { rows-is = rw (l, length-drop at s); answer-is = refl; kinds-is = rw l })
 
 -- a part up to the end of the line
 pub part-end : (s : List ℕ) (at : ℕ) → take (length s - at) (drop at s) ≡ drop at s

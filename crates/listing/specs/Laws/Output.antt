@@ -1,9 +1,13 @@
 -- The laws of the bytes of a listing. Assumes nothing.
 use Prim.Native.Nat.{ℕ, _+_, _*_, _≤_, _<_}
 use mathlib.Core.Path.{_≡_, refl, sym, ap, ap₂, _∙_}
+use mathlib.Core.Logic.{_⊎_, inl, inr}
+use mathlib.Core.Bool.{true, false}
 use mathlib.Core.List.{List, [], _∷_, _++_, map, append-nil}
 use native.Mathlib.Omega.{arith}
+use borrow.Author.Tests.{le-ltb}
 use native.Mathlib.Numerals.{add-one}
+use lib.IntN.{pos, negℤ}
 use lib.ListN.{length, getD, set, length-append, length-map}
 use Rattle.runs.specs.Runs.{Run, run}
 use Rattle.runs.specs.Laws.Runs.{runs-lists}
@@ -14,8 +18,8 @@ use Rattle.model.specs.Tasks.{step}
 use Rattle.model.specs.Book.{fits}
 use Rattle.model.specs.Listing.{Range, range-of, ranges}
 use Rattle.model.specs.Record.{bytes16, device-of, book-of}
-use Rattle.model.specs.Calls.{range-bytes, over, no-position}
-use Rattle.model.specs.Laws.Bounded.{is-false, map-append}
+use Rattle.model.specs.Calls.{list, lent, range-bytes, over, no-position, refused, refusals, unless, done, on-book}
+use Rattle.model.specs.Laws.Bounded.{true-or-false, is-false, map-append}
 use Rattle.model.specs.Laws.Parts.{splice, splice-none, splice-more, length-splice, set-two}
 use Rattle.model.specs.Laws.Listing.{join-append}
 use Rattle.model.specs.Laws.Limits.{limits-to}
@@ -167,6 +171,24 @@ module _ (r t : List ℕ) (g : Given r t) (o₀ : List ℕ) (big : list-room ≤
 
   -- ---- the answer
 
+  -- list on the book: of its refusals only −9 can apply
+  nowhere : no-position (device-of r) (book-of r) t ≡ true → on-book (device-of r) (book-of r) (list t o₀) ≡ record { answer = negℤ (pos 9); output = o₀; state = book-of r }
+  unfolding on-book unless refused refusals lent
+  nowhere e = rw (g .sized, g .formed, le-ltb (length o₀) list-room big, e)
+
+  somewhere : no-position (device-of r) (book-of r) t ≡ false → on-book (device-of r) (book-of r) (list t o₀) ≡ done (device-of r) (book-of r) (list t o₀)
+  unfolding on-book unless refused refusals
+  somewhere e = rw (g .sized, g .formed, le-ltb (length o₀) list-room big, e)
+
+  -- a number of ranges is that of the model's
+  pub count-is : (n : ℕ) (o : List ℕ) → Answers (Ranges n) (device-of r) (book-of r) t o₀ o → n ≡ length (ranges (device-of r) (book-of r) t)
+  unfolding done
+  count-is n o h = go (true-or-false (no-position (device-of r) (book-of r) t))
+    where
+      go : (no-position (device-of r) (book-of r) t ≡ true) ⊎ (no-position (device-of r) (book-of r) t ≡ false) → n ≡ length (ranges (device-of r) (book-of r) t)
+      go (inl e) = cc (rw (nowhere e) at (h .answer-is))
+      go (inr e) = cc (rw (somewhere e) at (h .answer-is))
+
   whole : (p n : ℕ) (o : List ℕ) → columns (device-of r) ≤ p → Written r t o₀ p n o → ranges-below r t p ≡ ranges (device-of r) (book-of r) t
   unfolding ranges
   whole p n o l w = let e : p ≡ columns (device-of r) = omega (arith, w .within) in rw e
@@ -180,16 +202,15 @@ module _ (r t : List ℕ) (g : Given r t) (o₀ : List ℕ) (big : list-room ≤
   answer-none p n o l w z =
       let e = whole p n o l w in
       let none : ranges-below r t p ≡ [] = length-none (ranges-below r t p) (sym (w .count) ∙ z) in
-      (ranges-none-iff (device-of r) (book-of r) t (some-blocks r t g) .0 (sym e ∙ none), w .bytes ∙ rw none (over-is [] o₀ ∙ splice-none o₀ 0))
+      let q = nowhere (ranges-none-iff (device-of r) (book-of r) t (some-blocks r t g) .0 (sym e ∙ none)) in
+      record { answer-is = rw q; output-is = rw q (w .bytes ∙ rw none (over-is [] o₀ ∙ splice-none o₀ 0)) }
 
   pub answer-some : (p n : ℕ) (o : List ℕ) → columns (device-of r) ≤ p → Written r t o₀ p n o → (n ≡ 0 → ⊥) → Answers (Ranges n) (device-of r) (book-of r) t o₀ o
+  unfolding done
   answer-some p n o l w h =
-      let e = whole p n o l w in (
-        w .count ∙ ap length e,
-        w .bytes ∙ rw e,
-        is-false (no-position (device-of r) (book-of r) t) (λ q. h (w .count ∙ ap length (e ∙ ranges-none-iff (device-of r) (book-of r) t (some-blocks r t g) .1 q))),
-        omega arith,
-      )
+      let e = whole p n o l w in
+      let q = somewhere (is-false (no-position (device-of r) (book-of r) t) (λ z. h (w .count ∙ ap length (e ∙ ranges-none-iff (device-of r) (book-of r) t (some-blocks r t g) .1 z)))) in
+      record { answer-is = rw q (ap pos (w .count ∙ ap length e)); output-is = rw q (w .bytes ∙ rw e) }
 
   pub few-ranges : (p n : ℕ) (o : List ℕ) → Written r t o₀ p n o → n ≤ max-runs * max-columns
   few-ranges p n o w = omega (arith, w .few, w .within, few-columns r (g .sound))

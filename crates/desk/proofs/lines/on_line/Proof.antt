@@ -1,8 +1,6 @@
 -- `desk::lines::on_line` meets its contract: a malformed line, or a line's call. Assumes nothing.
 use borrow.Author.Needs.{needs}
-use mathlib.Core.Path.{sym, ap, _∙_}
 use lib.ListN.{take}
-use Rattle.line.specs.Calls.{said}
 use Rattle.desk.specs.Desk.{desk-of}
 use Rattle.desk.specs.Laws.Lines.{leaves-malformed, line-does}
 use Rattle.desk.proofs.lines.on_line.Statement.{statement}
@@ -15,7 +13,7 @@ returns c =
     let r = e .before .before in
     let s = r .before .before .before .before .before .before in
     rw (c .leave .ensures .0, c .leave .ensures .1)
-    (leaves-malformed (s .args .card .now) (s .pre .is-card) (s .args .number) (s .args .draft .now) (s .args .used) (s .pre .drafted) (s .args .line .now) (sym (r .read .ensures) ∙ ap said (e .enum-told .given .1)) (y .say .ensures))
+    (leaves-malformed (s .args .card .now) (s .pre .is-card) (s .args .number) (s .args .draft .now) (s .args .used) (s .pre .drafted) (s .args .line .now) (rw (e .enum-told .given .1) at (r .read .ensures)) (y .say .ensures))
 
 returns-2 : tie.Need-returns-2
 returns-2 c =
@@ -23,7 +21,7 @@ returns-2 c =
     let k = y .before .before .before .before .before .before in
     let r = k .before .before in
     let s = r .before .before .before .before .before .before in
-    rw (line-does (s .args .number) (desk-of (s .args .card .now) (take (s .args .used) (s .args .draft .now))) (s .args .line .now) (sym (r .read .ensures) ∙ ap said (k .call .given .1)))
+    rw (line-does (s .args .number) (desk-of (s .args .card .now) (take (s .args .used) (s .args .draft .now))) (s .args .line .now) (rw (k .call .given .1) at (r .read .ensures)))
     (y .on-call .ensures)
 
 pub on-line-spec : {M : Type 1} → statement M
