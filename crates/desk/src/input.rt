@@ -1,7 +1,7 @@
 // The input: where its lines end, and its first three lines.
 use crate::MALFORMED;
 use crate::MAX_SHEET;
-use line::device::Rows;
+use line::device::DeviceRead;
 ghost use mathlib.Core.Path.{_≡_};
 ghost use Prim.Native.Nat.{_<_};
 ghost use lib.ListN.{length, drop};
@@ -31,7 +31,7 @@ fn new_card(line: &[u8], card: &mut [u8]) -> i32
     ensures { λ r. ⌜ Opens (device-line (now (line .entry))) (now (card .entry)) r (now (card .exit)) ⌝ }
 {
     let mut kinds = [0u8; line::MAX_LINE];
-    let Rows::Device { rows, count } = line::device::rows_line(line, &mut kinds) else {
+    let DeviceRead::Device { rows, count } = line::device::device_line(line, &mut kinds) else {
         return MALFORMED;
     };
     card::card_new(card, rows, &kinds[..count])

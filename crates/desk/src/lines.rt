@@ -28,7 +28,7 @@ fn on_call(
 {
     match call {
         Call::Block(block) => blocks::add_block(draft, used, number, block, out),
-        Call::Clear => leave(0, 0),
+        Call::Empty => leave(0, 0),
         Call::List => leave(
             used,
             ranges::list(card, &draft[..used], number, listing, out),

@@ -10,13 +10,13 @@ use lib.IntN.{ℤ, pos, negℤ}
 use Rattle.model.specs.Kinds.{number-of}
 use Rattle.model.specs.Sheet.{SheetCall, add-block, empty-draft, list-draft, choose-draft, place-draft, release-task, is, nought, with-some, provided, kind-letter, line-answer}
 use Rattle.line.specs.declared.call.Call.{Call}
-use Rattle.line.specs.declared.call.Call.the-variants.{Block, Clear, List, Choose, Place, Release}
+use Rattle.line.specs.declared.call.Call.the-variants.{Block, Empty, List, Choose, Place, Release}
 use Rattle.line.specs.declared.call.Line.{Line}
 use Rattle.line.specs.declared.call.Line.the-variants.{Does, Malformed}
 
 abbrev pub call-said : Call → SheetCall
 call-said (Block b) = add-block (b .column) (number-of (b .kind)) (b .bottom) (b .top)
-call-said Clear = empty-draft
+call-said Empty = empty-draft
 call-said List = list-draft
 call-said Choose = choose-draft
 call-said (Place task column bottom) = place-draft task column bottom

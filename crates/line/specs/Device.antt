@@ -8,8 +8,8 @@ use lib.IntN.{ℤ, pos, negℤ}
 use lib.ListN.{length, drop}
 use Rattle.model.specs.Columns.{Device}
 use Rattle.model.specs.Sheet.{kind-letter, line-answer}
-use Rattle.line.specs.declared.device.Rows.{Rows}
-use Rattle.line.specs.declared.device.Rows.the-variants as rows
+use Rattle.line.specs.declared.device.DeviceRead.{DeviceRead}
+use Rattle.line.specs.declared.device.DeviceRead.the-variants as rows
 
 -- whether the letters were kinds
 abbrev pub known : Option (List ℕ) → Bool
@@ -29,7 +29,7 @@ kinds-of [] = []
 kinds-of (x ∷ l) = kind-or-zero x ∷ kinds-of l
 
 -- the answer for a device, and what it leaves in the lent bytes
-abbrev pub rows-of : Option Device → Rows
+abbrev pub rows-of : Option Device → DeviceRead
 rows-of none = rows.Malformed
 rows-of (some d) = rows.Device (d .rows) (length (d .kinds))
 
@@ -38,12 +38,12 @@ kinds-left none lent = lent
 kinds-left (some d) lent = d .kinds ++ drop (length (d .kinds)) lent
 
 -- document 01's number of each case: "−12: line reader: the line is malformed"
-abbrev pub answer-of : Rows → ℤ
+abbrev pub answer-of : DeviceRead → ℤ
 answer-of (rows.Device n k) = pos 0
 answer-of rows.Malformed = negℤ (pos 12)
 
 -- r is the answer for a line that the model reads as o, with the line reader's number, and `left` is what it leaves in the lent bytes
-pub record Reads (o : Option Device) (r : Rows) (lent left : List ℕ) : Type 0 where
+pub record Reads (o : Option Device) (r : DeviceRead) (lent left : List ℕ) : Type 0 where
   pub rows-is : r ≡ rows-of o
   pub answer-is : answer-of r ≡ line-answer o
   pub kinds-is : left ≡ kinds-left o lent

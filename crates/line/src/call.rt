@@ -24,7 +24,7 @@ pub struct BlockCall {
 // What a sheet line asks for.
 pub enum Call {
     Block(BlockCall),
-    Clear,
+    Empty,
     List,
     Choose,
     Place { task: u16, column: u8, bottom: i16 },
@@ -106,7 +106,7 @@ fn meaning(letter: u8, task: u16, column: u8, kind: u8, bottom: i16, top: i16) -
 {
     match letter {
         b'B' => block(task, column, kind, bottom, top),
-        b'N' => provided(no_field(task, column, kind, bottom, top), Call::Clear),
+        b'N' => provided(no_field(task, column, kind, bottom, top), Call::Empty),
         b'L' => provided(no_field(task, column, kind, bottom, top), Call::List),
         b'C' => provided(no_field(task, column, kind, bottom, top), Call::Choose),
         b'P' => provided(

@@ -14,7 +14,7 @@ use crate::fields::Natural;
 use model::KindRead;
 
 // The rows of a device and how many columns it has, if its line is well-formed.
-pub enum Rows {
+pub enum DeviceRead {
     Device { rows: u32, count: usize },
     Malformed,
 }
@@ -70,27 +70,27 @@ fn put_kinds(letters: &[u8], kinds: &mut [u8])
 }
 
 // The device of a line: its kinds go to the front of `kinds`, which stays as it was where the line is malformed.
-pub fn rows_line(line: &[u8], kinds: &mut [u8]) -> Rows
+pub fn device_line(line: &[u8], kinds: &mut [u8]) -> DeviceRead
     requires { ⌜ max-line ≤ length (now kinds) ⌝ }
     ensures { λ r. ⌜ Reads (device-line (now (line .entry))) r (now (kinds .entry)) (now (kinds .exit)) ⌝ }
 {
     if MAX_LINE < line.len() {
-        return Rows::Malformed;
+        return DeviceRead::Malformed;
     }
     let Natural::Value(rows, at) = fields::natural_field(line, 0, MAX_ROWS_FIELD) else {
-        return Rows::Malformed;
+        return DeviceRead::Malformed;
     };
     if line.len() <= at {
-        return Rows::Malformed;
+        return DeviceRead::Malformed;
     }
     if fields::field_end(line, at) < line.len() {
-        return Rows::Malformed;
+        return DeviceRead::Malformed;
     }
     if !all_kinds(&line[at..]) {
-        return Rows::Malformed;
+        return DeviceRead::Malformed;
     }
     put_kinds(&line[at..], kinds);
-    Rows::Device {
+    DeviceRead::Device {
         rows: rows,
         count: line.len() - at,
     }

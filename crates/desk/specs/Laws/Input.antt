@@ -24,7 +24,7 @@ use Rattle.model.specs.Columns.{Device, device-ok}
 use Rattle.model.specs.OnRecord.{new}
 use Rattle.line.specs.Fields.{until}
 use Rattle.line.specs.Device.{answer-of, Reads}
-use Rattle.line.specs.declared.device.Rows.the-variants as rows
+use Rattle.line.specs.declared.device.DeviceRead.the-variants as rows
 use Rattle.card.specs.Leaves.{Changes}
 use Rattle.desk.specs.declared.input.Begun.{Begun}
 use Rattle.desk.specs.declared.input.Begun.the-variants as begun

@@ -19,7 +19,7 @@ use Rattle.line.specs.Fields.{word, natural-at}
 use Rattle.line.specs.Device.{known, or-zero, kind-or-zero, kinds-of, Reads}
 use Rattle.line.specs.Laws.Fields.{cond-same, and-right, start, field-is, fields-more, fields-less, field-part, after-is, until-none}
 use Rattle.line.specs.Laws.Calls.{natural-lost}
-use Rattle.line.specs.declared.device.Rows.the-variants as rows
+use Rattle.line.specs.declared.device.DeviceRead.the-variants as rows
 use Rattle.line.specs.declared.fields.Natural.the-variants as nat
 
 -- ---- letters

@@ -12,14 +12,14 @@ use Rattle.desk.proofs.input.new_card.Statement.{statement}
 use Rattle.desk.proofs.input.new_card.Tie as tie
 
 -- the count lies in the lent bytes
-fits : (c : tie.After-rows) → c .rows .given .0 .1 .0 ≤ length (c .before .before .before .rows-line .last .1 .0)
-fits c = let r = c .before .before .before in let s = r .before .before .before .before in count-fits (device-line (s .args .line .now)) (rw (c .rows .given .1) at (r .rows-line .ensures))
+fits : (c : tie.After-rows) → c .rows .given .0 .1 .0 ≤ length (c .before .before .before .device-line .last .1 .0)
+fits c = let r = c .before .before .before in let s = r .before .before .before .before in count-fits (device-line (s .args .line .now)) (rw (c .rows .given .1) at (r .device-line .ensures))
 
 returns : tie.Need-returns
 returns c =
     let r = c .before .before .before in
     let s = r .before .before .before .before in
-    opens-none (device-line (s .args .line .now)) (s .args .card .now) (rw (c .enum-told .given .1) at (r .rows-line .ensures))
+    opens-none (device-line (s .args .line .now)) (s .args .card .now) (rw (c .enum-told .given .1) at (r .device-line .ensures))
 
 array-share-prefix-kinds : tie.Need-array-share-prefix-kinds
 array-share-prefix-kinds c = fits (c .before .before)
@@ -33,7 +33,7 @@ returns-2 c =
     let t = n .before .before .before .before in
     let r = t .before .before .before in
     let s = r .before .before .before .before in
-    rw (read w32 (n .card-new .ok)) (opens-some (device-line (s .args .line .now)) (s .args .card .now) (rw (t .rows .given .1) at (r .rows-line .ensures)) (n .card-new .ensures))
+    rw (read w32 (n .card-new .ok)) (opens-some (device-line (s .args .line .now)) (s .args .card .now) (rw (t .rows .given .1) at (r .device-line .ensures)) (n .card-new .ensures))
 
 pub new-card-spec : {M : Type 1} → statement M
 new-card-spec =

@@ -1,4 +1,4 @@
--- `line::device::rows_line` meets its contract: two fields, the second all kinds. Assumes nothing.
+-- `line::device::device_line` meets its contract: two fields, the second all kinds. Assumes nothing.
 use borrow.Author.Needs.{needs}
 use borrow.Author.Tests.{not-true, not-false}
 use mathlib.Core.Path.{_≡_, refl}
@@ -12,8 +12,8 @@ use Rattle.model.specs.Sheet.{fields, natural-field}
 use Rattle.line.specs.Laws.Fields.{start}
 use Rattle.line.specs.Laws.Calls.{natural-took}
 use Rattle.line.specs.Laws.Device.{device-long, rows-lost, no-kinds, third-field, bad-kinds, device-is, answers-none, answers-device, part-end}
-use Rattle.line.proofs.device.rows_line.Statement.{statement}
-use Rattle.line.proofs.device.rows_line.Tie as tie
+use Rattle.line.proofs.device.device_line.Statement.{statement}
+use Rattle.line.proofs.device.device_line.Tie as tie
 
 -- the line, and the place where the rows were taken apart
 abbrev text : tie.After-rows → List ℕ
@@ -58,8 +58,8 @@ returns-6 c =
     (device-is _ _ _ (rows r .1) (f .field-end .ensures .0) (f .before .if2 .left) (e .if3 .left) (r .before .before .before .if1 .left) (rows r .0) all)
     (rw part-end at (p .put-kinds .ensures))
 
-pub rows-line-spec : {M : Type 1} → statement M
-rows-line-spec =
+pub device-line-spec : {M : Type 1} → statement M
+device-line-spec =
     tie.close
     (tie.spec returns (λ c κs. search needs) (λ c. search needs) (λ c. search needs) returns-2 returns-3 (λ c κs. search needs) returns-4
     (λ c. search needs) (λ c. search needs) (λ c. search needs) (λ c κs. search needs) returns-5
