@@ -1,7 +1,7 @@
 // The first three lines of a sheet: two names lines, and the line of rows and kinds between them.
 ghost use mathlib.Core.Path.{_≡_};
 ghost use lib.ListN.{length};
-ghost use Prim.Native.Nat.{_+_, _≤_};
+ghost use Prim.Native.Nat.{_≤_};
 ghost use Rattle.model.specs.Limits.{max-line};
 ghost use Rattle.model.specs.Laws.Parts.{splice};
 ghost use Rattle.model.specs.Sheet.{first-names, second-names, kind-letters, device-line};

@@ -126,13 +126,6 @@ six fs =
 unfoldable pub sheet-line : List ℕ → Option SheetCall
 sheet-line l = let read = six (fields l) in cond (leb (length l) max-line && eqb (length (fields l)) 6) read none
 
--- ---- the answer
-
--- "−12: line reader: the line is malformed": the answer for what a line, a call's or the device's, is read as; 0 where it is no refusal
-abbrev pub line-answer : {A : Type 0} → Option A → ℤ
-line-answer none = negℤ (pos 12)
-line-answer (some a) = pos 0
-
 -- ---- the first three lines
 
 abbrev pub first-names : List ℕ
@@ -157,6 +150,13 @@ device-line l =
     let read : Option Device = with-some (natural-field max-rows-field (getD (fields l) 0 [])) (λ rows. with-some (kinds-field (getD (fields l) 1 [])) (λ kinds.
     some (record { rows = rows; kinds = kinds }))) in
     cond (leb (length l) max-line && eqb (length (fields l)) 2) read none
+
+-- ---- the line reader's answer
+
+-- "−12: line reader: the line is malformed", be it a call's line or the device's; 0 where it is read
+abbrev pub line-answer : {A : Type 0} → Option A → ℤ
+line-answer none = negℤ (pos 12)
+line-answer (some a) = pos 0
 
 -- ---- printing
 

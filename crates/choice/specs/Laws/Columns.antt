@@ -17,7 +17,7 @@ use Rattle.model.specs.Limits.{max-columns, columns-at, column-weight}
 use Rattle.model.specs.Columns.{Device, columns, half-rows}
 use Rattle.model.specs.Tasks.{blocks, well-formed, step}
 use Rattle.model.specs.Book.{Book, fits}
-use Rattle.model.specs.Choice.{judge, nothing, at, climb, choice, chosen}
+use Rattle.model.specs.Choice.{judge, at, climb, choice, chosen}
 use Rattle.model.specs.Record.{device-of, book-of}
 use Rattle.model.specs.Calls.{choose, no-position, position-number, refused, refusals, unless, done, on-book}
 use Rattle.model.specs.Laws.Bounded.{clash, is-false}

@@ -16,7 +16,7 @@ use Rattle.model.specs.Record.{record-of, device-of, book-of, bytes16}
 use Rattle.model.specs.Sound.{within}
 use Rattle.model.specs.Calls.{Call, list, choose, Outcome, refused, refusals, unless, lent, done, on-book}
 use Rattle.model.specs.OnRecord.{written, on-record}
-use Rattle.model.specs.Sheet.{SheetCall, empty-draft, list-draft, choose-draft, sheet-line}
+use Rattle.model.specs.Sheet.{empty-draft, list-draft, choose-draft, sheet-line}
 use Rattle.model.specs.Program.{Desk, Left, says, block-bytes, answered, listed, on-call, on-line}
 use Rattle.model.specs.Laws.Parts.{splice, length-splice}
 use Rattle.model.specs.Laws.Kept.{kept}

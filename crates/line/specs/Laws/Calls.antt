@@ -244,7 +244,7 @@ module _ (s : List ℕ) where
 
 -- ---- the answer
 
--- what an answer says gives its number
-pub says : (r : Line) {o : Option SheetCall} → said r ≡ o → Says r o
-says (Does call) e = record { call-is = e; answer-is = rw (← e) }
-says Malformed e = record { call-is = e; answer-is = rw (← e) }
+-- what is said, and so the number
+pub with-number : (r : Line) {o : Option SheetCall} → said r ≡ o → Says r o
+with-number (Does call) e = record { call-is = e; answer-is = rw (← e) }
+with-number Malformed e = record { call-is = e; answer-is = rw (← e) }

@@ -13,7 +13,7 @@ use Rattle.signed.proofs.Signed.{took}
 use Rattle.model.specs.Limits.{max-number, max-column-field}
 use Rattle.model.specs.Sheet.{fields, natural-field, height-field}
 use Rattle.line.specs.Laws.Fields.{start}
-use Rattle.line.specs.Laws.Calls.{byte-took, natural-took, height-took, natural-within, line-long, letter-lost, task-lost, column-lost, kind-lost, bottom-lost, top-lost, seven-fields, line-is, says}
+use Rattle.line.specs.Laws.Calls.{byte-took, natural-took, height-took, natural-within, line-long, letter-lost, task-lost, column-lost, kind-lost, bottom-lost, top-lost, seven-fields, line-is, with-number}
 use Rattle.line.proofs.call.read.Statement.{statement}
 use Rattle.line.proofs.call.read.Tie as tie
 
@@ -68,28 +68,28 @@ top-back : (c : tie.After-known-told6) → toZ w16 (ofZ w16 (c .before .top .giv
 top-back c = toZ-ofZ (sfits-of {w = w16} {z = c .before .top .given .0 .0} (c .known-told6 .given .0 .1))
 
 returns : tie.Need-returns
-returns c = says _ (sym (line-long _ (c .if1 .taken)))
+returns c = with-number _ (sym (line-long _ (c .if1 .taken)))
 
 returns-2 : tie.Need-returns-2
-returns-2 c = says _ (sym (letter-lost _ (took (c .before .before .byte-field .ensures) (c .enum-told .given .1))))
+returns-2 c = with-number _ (sym (letter-lost _ (took (c .before .before .byte-field .ensures) (c .enum-told .given .1))))
 
 returns-3 : tie.Need-returns-3
-returns-3 c = says _ (sym (task-lost _ (letter (c .before .before .before .before) .1) (took (c .before .before .natural-field .ensures) (c .enum-told2 .given .1))))
+returns-3 c = with-number _ (sym (task-lost _ (letter (c .before .before .before .before) .1) (took (c .before .before .natural-field .ensures) (c .enum-told2 .given .1))))
 
 returns-4 : tie.Need-returns-4
-returns-4 c = says _ (sym (column-lost _ (task (c .before .before .before .before) .1) (took (c .before .before .natural-field2 .ensures) (c .enum-told3 .given .1))))
+returns-4 c = with-number _ (sym (column-lost _ (task (c .before .before .before .before) .1) (took (c .before .before .natural-field2 .ensures) (c .enum-told3 .given .1))))
 
 returns-5 : tie.Need-returns-5
-returns-5 c = says _ (sym (kind-lost _ (column (c .before .before .before .before) .1) (took (c .before .before .byte-field2 .ensures) (c .enum-told4 .given .1))))
+returns-5 c = with-number _ (sym (kind-lost _ (column (c .before .before .before .before) .1) (took (c .before .before .byte-field2 .ensures) (c .enum-told4 .given .1))))
 
 returns-6 : tie.Need-returns-6
-returns-6 c = says _ (sym (bottom-lost _ (kind (c .before .before .before .before) .1) (took (c .before .before .height-field .ensures) (c .enum-told5 .given .1))))
+returns-6 c = with-number _ (sym (bottom-lost _ (kind (c .before .before .before .before) .1) (took (c .before .before .height-field .ensures) (c .enum-told5 .given .1))))
 
 returns-7 : tie.Need-returns-7
-returns-7 c = says _ (sym (top-lost _ (bottom (c .before .before .before .before) .1) (took (c .before .before .height-field2 .ensures) (c .enum-told6 .given .1))))
+returns-7 c = with-number _ (sym (top-lost _ (bottom (c .before .before .before .before) .1) (took (c .before .before .height-field2 .ensures) (c .enum-told6 .given .1))))
 
 returns-8 : tie.Need-returns-8
-returns-8 c = says _ (sym (seven-fields _ (top (c .before .before) .1) (c .if2 .taken)))
+returns-8 c = with-number _ (sym (seven-fields _ (top (c .before .before) .1) (c .if2 .taken)))
 
 cast-meaning : tie.Need-cast-meaning
 cast-meaning c =
@@ -108,7 +108,7 @@ returns-9 c =
     let b = at-bottom t in
     let d = at-kind b in
     let n = at-column d in
-    says (c .meaning .result)
+    with-number (c .meaning .result)
     (rw (c .meaning .ensures, bottom-back (t .before .before .before), top-back k)
     (sym (line-is _ (at-letter (at-task n) .before .before .before .if1 .left) (letter (at-letter (at-task n)) .0) (task (at-task n) .0) (column n .0) (kind d .0) (bottom b .0) (top t .0) (top t .1) (c .before .if2 .left))))
 
