@@ -9,9 +9,9 @@ pub mod print; // lines of output
 pub const MAX_LINE: usize = 80;
 
 // The greatest task number, number of rows and column that a field may have.
-pub const MAX_TASK_FIELD: u32 = model::MAX_NUMBER;
+pub const MAX_TASK_FIELD: u32 = 65535;
 
-pub const MAX_ROWS_FIELD: u32 = model::MAX_NUMBER;
+pub const MAX_ROWS_FIELD: u32 = 65535;
 
 pub const MAX_COLUMN_FIELD: u32 = 255;
 

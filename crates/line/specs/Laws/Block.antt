@@ -11,7 +11,7 @@ use mir.Syntax.{w16, w32}
 use mir.Val.{SFits, toZ, ofZ}
 use mir.Facts.{toZ-ofZ}
 use borrow.Author.Tests.{le-ltb}
-use Rattle.model.specs.Limits.{block-size}
+use Rattle.model.specs.Limits.{block-size, block-bottom-at, block-top-at}
 use Rattle.model.specs.Tasks.{word, lifted, block}
 use Rattle.model.specs.Kinds.{number-of}
 use Rattle.model.specs.Record.{bytes16}
@@ -84,6 +84,6 @@ module _ (r : List ℕ) (i : ℕ) (b : BlockCall) (fits : block-size * i + block
 
   -- and its bottom and top are the values that the call has
   pub values-read : let t = splice r (block-size * i) block-size (call-bytes b) in
-      (toZ w16 (word t (block-size * i + 2)) ≡ b .bottom) × (toZ w16 (word t (block-size * i + 4)) ≡ b .top)
+      (toZ w16 (word t (block-size * i + block-bottom-at)) ≡ b .bottom) × (toZ w16 (word t (block-size * i + block-top-at)) ≡ b .top)
   unfolding written
   values-read = rw (bottom-read, top-read) (toZ-ofZ {w = w16} f, toZ-ofZ {w = w16} g)

@@ -12,7 +12,7 @@ use mir.Syntax.{Width}
 use mir.Val.{SFits, ofZ}
 use borrow.Author.Tests.{eq-eqb, ne-eqb, le-leb, lt-leb, leb-true}
 use Rattle.signed.proofs.Signed.{zero-bits}
-use Rattle.model.specs.Limits.{max-line, max-number, max-column-field}
+use Rattle.model.specs.Limits.{max-line, max-task-field, max-column-field}
 use Rattle.model.specs.Sheet.{SheetCall, with-some, provided, fields, is, nought, natural, number, natural-field, height-field, kind-field, call-of, six, sheet-line}
 use Rattle.line.specs.Fields.{word, after, one-byte, natural-with, height-with, byte-at, natural-at, height-at}
 use Rattle.line.specs.Laws.Fields.{cond-same, and-right, start, field-is, fields-more, fields-less, field-there}
@@ -156,7 +156,7 @@ module _ (fs : List (List ℕ)) where
   call : ℕ → ℕ → ℤ → ℤ → Option SheetCall
   call task column bottom top = call-of (getD fs 0 []) task column (getD fs 3 []) bottom top
 
-  six-four : six fs ≡ four call (natural-field max-number (getD fs 1 [])) (natural-field max-column-field (getD fs 2 [])) (height-field (getD fs 4 [])) (height-field (getD fs 5 []))
+  six-four : six fs ≡ four call (natural-field max-task-field (getD fs 1 [])) (natural-field max-column-field (getD fs 2 [])) (height-field (getD fs 4 [])) (height-field (getD fs 5 []))
   unfolding six four call
   six-four = refl
 
@@ -168,7 +168,7 @@ module _ (fs : List (List ℕ)) where
   unfolding call
   six-kind e = six-four ∙ no-way call (λ task column bottom top. no-kind _ task column _ bottom top e) _ _ _ _
 
-  six-task : natural-field max-number (getD fs 1 []) ≡ none → six fs ≡ none
+  six-task : natural-field max-task-field (getD fs 1 []) ≡ none → six fs ≡ none
   unfolding six
   six-task e = rw e
 
@@ -181,7 +181,7 @@ module _ (fs : List (List ℕ)) where
   six-top : height-field (getD fs 5 []) ≡ none → six fs ≡ none
   six-top e = rw (six-four, e) (no-fourth call _ _ _)
 
-  six-is : {task column : ℕ} {bottom top : ℤ} → natural-field max-number (getD fs 1 []) ≡ some task → natural-field max-column-field (getD fs 2 []) ≡ some column
+  six-is : {task column : ℕ} {bottom top : ℤ} → natural-field max-task-field (getD fs 1 []) ≡ some task → natural-field max-column-field (getD fs 2 []) ≡ some column
       → height-field (getD fs 4 []) ≡ some bottom → height-field (getD fs 5 []) ≡ some top → six fs ≡ call-of (getD fs 0 []) task column (getD fs 3 []) bottom top
   unfolding six
   six-is p q r t = rw (p, q, r, t)
@@ -205,8 +205,8 @@ module _ (s : List ℕ) where
   pub letter-lost : byte-at s 0 ≡ one.Bad → sheet-line s ≡ none
   letter-lost e = lost (six-letter (fields s) (byte-lost s 0 0 refl e))
 
-  pub task-lost : {at : ℕ} → at ≡ start s 0 1 → natural-at s at max-number ≡ nat.Bad → sheet-line s ≡ none
-  task-lost {at} h e = lost (six-task (fields s) (natural-lost s 1 at h max-number e))
+  pub task-lost : {at : ℕ} → at ≡ start s 0 1 → natural-at s at max-task-field ≡ nat.Bad → sheet-line s ≡ none
+  task-lost {at} h e = lost (six-task (fields s) (natural-lost s 1 at h max-task-field e))
 
   pub column-lost : {at : ℕ} → at ≡ start s 0 2 → natural-at s at max-column-field ≡ nat.Bad → sheet-line s ≡ none
   column-lost {at} h e = lost (six-column (fields s) (natural-lost s 2 at h max-column-field e))
@@ -235,7 +235,7 @@ module _ (s : List ℕ) where
       omega arith
 
   pub line-is : {letter task column kind n : ℕ} {bottom top : ℤ} → length s ≤ max-line
-      → getD (fields s) 0 [] ≡ letter ∷ [] → natural-field max-number (getD (fields s) 1 []) ≡ some task → natural-field max-column-field (getD (fields s) 2 []) ≡ some column
+      → getD (fields s) 0 [] ≡ letter ∷ [] → natural-field max-task-field (getD (fields s) 1 []) ≡ some task → natural-field max-column-field (getD (fields s) 2 []) ≡ some column
       → getD (fields s) 3 [] ≡ kind ∷ [] → height-field (getD (fields s) 4 []) ≡ some bottom → height-field (getD (fields s) 5 []) ≡ some top
       → n ≡ start s 0 6 → length s < n → sheet-line s ≡ call-of (letter ∷ []) task column (kind ∷ []) bottom top
   unfolding sheet-line

@@ -12,7 +12,7 @@ use native.Mathlib.Nat.{zero-add}
 use Rattle.model.specs.Laws.Parts.{splice, splice-none, splice-grow}
 use lib.Dec.{leb, eqb}
 use borrow.Author.Tests.{eq-eqb, ne-eqb, le-leb, lt-leb}
-use Rattle.model.specs.Limits.{max-line, max-number}
+use Rattle.model.specs.Limits.{max-line, max-rows-field}
 use Rattle.model.specs.Columns.{Device}
 use Rattle.model.specs.Sheet.{with-some, fields, natural-field, kind-letter, kind-letters, kinds-field, device-line}
 use Rattle.line.specs.Fields.{word, natural-at}
@@ -91,19 +91,19 @@ module _ (s : List ℕ) where
   two-none none = refl
   two-none (some n) = refl
 
-  line-two : device-line s ≡ cond (leb (length s) max-line && eqb (length (fields s)) 2) (two (natural-field max-number (getD (fields s) 0 [])) (kinds-field (getD (fields s) 1 []))) none
+  line-two : device-line s ≡ cond (leb (length s) max-line && eqb (length (fields s)) 2) (two (natural-field max-rows-field (getD (fields s) 0 [])) (kinds-field (getD (fields s) 1 []))) none
   unfolding device-line two
   line-two = refl
 
   pub device-long : max-line < length s → device-line s ≡ none
   device-long h = line-two ∙ rw (lt-leb (length s) max-line h)
 
-  pub rows-lost : natural-at s 0 max-number ≡ nat.Bad → device-line s ≡ none
+  pub rows-lost : natural-at s 0 max-rows-field ≡ nat.Bad → device-line s ≡ none
   unfolding two
-  rows-lost e = line-two ∙ rw (natural-lost s 0 0 refl max-number e) (cond-same (leb (length s) max-line && eqb (length (fields s)) 2) none)
+  rows-lost e = line-two ∙ rw (natural-lost s 0 0 refl max-rows-field e) (cond-same (leb (length s) max-line && eqb (length (fields s)) 2) none)
 
   kinds-lost : kinds-field (getD (fields s) 1 []) ≡ none → device-line s ≡ none
-  kinds-lost e = line-two ∙ rw (e, two-none (natural-field max-number (getD (fields s) 0 []))) (cond-same (leb (length s) max-line && eqb (length (fields s)) 2) none)
+  kinds-lost e = line-two ∙ rw (e, two-none (natural-field max-rows-field (getD (fields s) 0 []))) (cond-same (leb (length s) max-line && eqb (length (fields s)) 2) none)
 
   -- no kinds
   pub no-kinds : {at : ℕ} → at ≡ start s 0 1 → length s ≤ at → device-line s ≡ none
@@ -132,7 +132,7 @@ module _ (s : List ℕ) where
       pub bad-kinds : known (kind-letters (drop at s)) ≡ false → device-line s ≡ none
       bad-kinds e = kinds-lost (letters-are ∙ letters-unknown (kind-letters (drop at s)) e)
 
-      pub device-is : {rows : ℕ} → length s ≤ max-line → natural-field max-number (getD (fields s) 0 []) ≡ some rows → known (kind-letters (drop at s)) ≡ true
+      pub device-is : {rows : ℕ} → length s ≤ max-line → natural-field max-rows-field (getD (fields s) 0 []) ≡ some rows → known (kind-letters (drop at s)) ≡ true
           → device-line s ≡ some (record { rows = rows; kinds = kinds-of (drop at s) })
       unfolding two
       device-is short r k =

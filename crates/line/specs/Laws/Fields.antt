@@ -40,9 +40,6 @@ unfolding decimal
 decimal-grows [] v = omega arith
 decimal-grows (x ∷ l) v = omega (arith, decimal-grows l (10 * v + (x - 48)))
 
-pub small-yes : (n : ℕ) → n ≤ most-read → small n ≡ digits.Value n
-small-yes n h = rw (le-leb n most-read h)
-
 pub small-no : (n : ℕ) → most-read < n → small n ≡ digits.None
 small-no n h = rw (lt-leb n most-read h)
 

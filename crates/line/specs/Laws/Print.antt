@@ -64,10 +64,6 @@ pub shown-front : (n : ℕ) → n < 1000000000 → length (shown (pos n)) ≤ 9
 unfolding shown
 shown-front n l = rw (← digits-more 8 n l) (digits-most 8 n)
 
-pub shown-most : (n : ℕ) → length (shown (pos n)) ≤ 10
-unfolding shown
-shown-most n = digits-most 9 n
-
 pub shown-minus : (z : ℤ) → ltZ z (pos 0) ≡ true → shown z ≡ code "-" ∷ shown (pos (natAbs z))
 unfolding shown
 shown-minus (pos n) e = cc (leb·suc-zero n)

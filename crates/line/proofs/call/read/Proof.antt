@@ -10,7 +10,7 @@ use mir.Syntax.{w16}
 use mir.Val.{toZ, ofZ}
 use mir.Facts.{toZ-ofZ}
 use Rattle.signed.proofs.Signed.{took}
-use Rattle.model.specs.Limits.{max-number, max-column-field}
+use Rattle.model.specs.Limits.{max-task-field, max-column-field}
 use Rattle.model.specs.Sheet.{fields, natural-field, height-field}
 use Rattle.line.specs.Laws.Fields.{start}
 use Rattle.line.specs.Laws.Calls.{byte-took, natural-took, height-took, natural-within, line-long, letter-lost, task-lost, column-lost, kind-lost, bottom-lost, top-lost, seven-fields, line-is, with-number}
@@ -41,8 +41,8 @@ letter : (c : tie.After-letter) → (getD (fields (text c)) 0 [] ≡ c .letter .
 letter c = byte-took (text c) 0 0 refl (took (c .before .before .byte-field .ensures) (c .letter .given .1))
 
 task : (c : tie.After-task) → let s = text (at-letter c) in
-    (natural-field max-number (getD (fields s) 1 []) ≡ some (c .task .given .0 .0)) × (c .task .given .0 .1 .0 ≡ start s 0 2)
-task c = natural-took _ 1 _ (letter (at-letter c) .1) max-number (took (c .before .before .natural-field .ensures) (c .task .given .1))
+    (natural-field max-task-field (getD (fields s) 1 []) ≡ some (c .task .given .0 .0)) × (c .task .given .0 .1 .0 ≡ start s 0 2)
+task c = natural-took _ 1 _ (letter (at-letter c) .1) max-task-field (took (c .before .before .natural-field .ensures) (c .task .given .1))
 
 column : (c : tie.After-column) → let s = text (at-letter (at-task c)) in
     (natural-field max-column-field (getD (fields s) 2 []) ≡ some (c .column .given .0 .0)) × (c .column .given .0 .1 .0 ≡ start s 0 3)
@@ -94,7 +94,7 @@ returns-8 c = with-number _ (sym (seven-fields _ (top (c .before .before) .1) (c
 cast-meaning : tie.Need-cast-meaning
 cast-meaning c =
     let t = at-task (at-column (at-kind (at-bottom (c .before .before)))) in
-    record { fits = omega (arith, natural-within max-number _ (task t .0)) }
+    record { fits = omega (arith, natural-within max-task-field _ (task t .0)) }
 
 cast-meaning-2 : tie.Need-cast-meaning-2
 cast-meaning-2 c =

@@ -7,7 +7,7 @@ use mathlib.Core.List.{List, []}
 use Prim.Native.Nat.{ℕ}
 use lib.ListN.{getD}
 use Rattle.signed.proofs.Signed.{took}
-use Rattle.model.specs.Limits.{max-number}
+use Rattle.model.specs.Limits.{max-rows-field}
 use Rattle.model.specs.Sheet.{fields, natural-field}
 use Rattle.line.specs.Laws.Fields.{start}
 use Rattle.line.specs.Laws.Calls.{natural-took}
@@ -22,8 +22,8 @@ text c = c .before .before .before .before .before .before .args .line .now
 abbrev at-rows : tie.Else2 → tie.After-rows
 at-rows c = c .before .before
 
-rows : (c : tie.After-rows) → (natural-field max-number (getD (fields (text c)) 0 []) ≡ some (c .rows .given .0 .0)) × (c .rows .given .0 .1 .0 ≡ start (text c) 0 1)
-rows c = natural-took (text c) 0 0 refl max-number (took (c .before .before .natural-field .ensures) (c .rows .given .1))
+rows : (c : tie.After-rows) → (natural-field max-rows-field (getD (fields (text c)) 0 []) ≡ some (c .rows .given .0 .0)) × (c .rows .given .0 .1 .0 ≡ start (text c) 0 1)
+rows c = natural-took (text c) 0 0 refl max-rows-field (took (c .before .before .natural-field .ensures) (c .rows .given .1))
 
 returns : tie.Need-returns
 returns c = answers-none _ _ (device-long _ (c .if1 .taken))
