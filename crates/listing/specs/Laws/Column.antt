@@ -123,7 +123,7 @@ start-lifted r t F T p n s g = record { few = omega (arith, g .count-is); listed
 -- in steps of 2 or more there are few runs
 few-listed : (r t : List ℕ) (p k s n : ℕ) (F T : List ℕ) → Standing (device-of r) (book-of r) t p k s (read n F T) → n ≤ max-runs
 few-listed r t p k s n F T g =
-    let (two, ten) = listed-step (device-of r) (book-of r) t p k s (read n F T) g in
+    let two = listed-step (device-of r) (book-of r) t p k s (read n F T) g .0 in
     omega (arith, length-read n F T, few-runs s (read n F T) two (g .canon) (listed-bound (device-of r) (book-of r) t p k s (read n F T) g))
 
 module _ (r t : List ℕ) (p k n s : ℕ) (F T : List ℕ) (x : Nextable r t p k n s F T) where
@@ -133,8 +133,8 @@ module _ (r t : List ℕ) (p k n s : ℕ) (F T : List ℕ) (x : Nextable r t p k
   on : On r t p k
   on = x .liftable .on k (x .next)
 
-  steps : Step s
-  steps = omega (arith, listed-step (device-of r) (book-of r) t p k s (read n F T) (x .lifted .listed))
+  step-small : Step s
+  step-small = omega (arith, listed-step (device-of r) (book-of r) t p k s (read n F T) (x .lifted .listed))
 
   -- the column's intervals are those of the book
   listed-free : listed-intervals r (p + block t k .column) ≡ intervals (device-of r) (book-of r) (p + block t k .column)
@@ -170,7 +170,7 @@ module _ (r t : List ℕ) (p k n s : ℕ) (F T : List ℕ) (x : Nextable r t p k
         whole = whole-cells (block t k) z;
         room = m;
         count = x .lifted .few;
-        step = steps;
+        step = step-small;
         canon = rw e (g .canon);
         spaced = rw e (listed-spaced (device-of r) (book-of r) t p k s (read n F T) g);
         bound = λ y u. listed-bound (device-of r) (book-of r) t p k s (read n F T) g y (rw e at u);
@@ -185,7 +185,7 @@ module _ (r t : List ℕ) (p k n s : ℕ) (F T : List ℕ) (x : Nextable r t p k
     meetable L H m e = subst (λ (a : model.Block). Meetable r (p + a .column) a L H n s) (sym (same-seen b (block t k) same)) (meetable-block L H m e)
 
     pub next-steps : (h : ℕ) → h ≡ height (seen b .kind) → Step s × Step h
-    next-steps h e = (steps, rw e (height-step (seen b .kind)))
+    next-steps h e = (step-small, rw e (height-step (seen b .kind)))
 
     pub next-lifted : (L H G U : List ℕ) (o h l : ℕ) → read n L H ≡ read n F T → Met r (p + b .column) (seen b) s (read n L H) (read o G U) → h ≡ height (seen b .kind)
         → Lcm s h l → LiftedTo r t p (k + 1) o l G U

@@ -110,8 +110,8 @@ named-numbers p s (r ∷ L) =
     (ap (λ (l : List Position). l ++ map (position p) (join-in (numbers s) L)) (sym (map-list (position p) (λ i. r .first + i * s) (suc ((r .last - r .first) / s)))))
 
 module _ (d : Device) (b : Book) (t : List ℕ) (n : sized t ≡ true) where
-  bounds : (2 ≤ step t) × (step t ≤ 10)
-  bounds = step-bounds t (sized-to t n .some-blocks)
+  two : 2 ≤ step t
+  two = step-bounds t (sized-to t n .some-blocks) .0
 
   in-step : (p : ℕ) → InStep (step t) (fits d b t p)
   in-step p = fits-steps d b t p (sized-to t n .some-blocks)
@@ -123,12 +123,12 @@ module _ (d : Device) (b : Book) (t : List ℕ) (n : sized t ≡ true) where
       join-join named (λ p. map (range-of p (step t)) (runs (step t) (fits d b t p) (half-rows d))) (columns d)
       ∙ join-cong _ _ (columns d)
       (λ p l. named-numbers p (step t) (runs (step t) (fits d b t p) (half-rows d))
-      ∙ ap (map (position p)) (numbers-runs (step t) (omega (arith, bounds)) (fits d b t p) (in-step p) (half-rows d)))
+      ∙ ap (map (position p)) (numbers-runs (step t) (omega (arith, two)) (fits d b t p) (in-step p) (half-rows d)))
 
   module _ (w : within d b ≡ true) where
     -- THEOREM: a column has at most 64 ranges
     pub few-ranges : (p : ℕ) → length (runs (step t) (fits d b t p) (half-rows d)) ≤ max-intervals
-    few-ranges p = few-runs (step t) (fits d b t p) (half-rows d) (bounds .0) (in-step p) (omega (arith, limits-to d b w .rows))
+    few-ranges p = few-runs (step t) (fits d b t p) (half-rows d) two (in-step p) (omega (arith, limits-to d b w .rows))
 
     -- so a listing has at most 64 to a column, and its bytes fit into the output
     pub ranges-length : length (ranges d b t) ≤ max-intervals * columns d

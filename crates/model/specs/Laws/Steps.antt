@@ -1,4 +1,4 @@
--- The step of a task is the least common multiple of the heights of its blocks. So its fitting bottoms in one column lie in one class of it. Assumes nothing.
+-- The step of a task is the least common multiple of its heights, so the fitting bottoms in one column lie in one class of it. Assumes nothing.
 use Prim.Native.Nat.{ℕ, suc, _+_, _-_, _*_, _≤_, _<_}
 use mathlib.Core.Path.{_≡_, refl, ap}
 use mathlib.Core.Bool.{Bool, true, false, not, cond}
@@ -33,7 +33,7 @@ module _ (t : List ℕ) where
   other i = not (logic i)
 
   -- THEOREM, "The step is 2 when all blocks are C, 5 when none is, 10 when both occur": it is the least common multiple of all heights.
-  -- These numbers are taken apart here alone; whatever else is said of the step follows.
+  -- What is said below, and elsewhere, of fitting, listing and choosing in steps rests on this, and not on the three numbers.
   pub common-step : 1 ≤ blocks t → Common t (blocks t) (step t)
   unfolding step height
   common-step n = go (any-below (blocks t) logic) refl (any-below (blocks t) other) refl
