@@ -6,7 +6,7 @@ use mathlib.Core.Bool.{true, false}
 use mathlib.Core.List.{List}
 use native.Mathlib.Omega.{arith}
 use native.Mathlib.Numerals.{add-one}
-use lib.IntN.{pos, negℤ}
+use lib.IntN.{pos}
 use lib.ListN.{length, getD, take, length-take}
 use lib.Seq.{getD-take}
 use Rattle.runs.specs.Laws.Tests.{lt-or-ge}
@@ -22,6 +22,7 @@ use Rattle.model.specs.Record.{device-of, book-of}
 use Rattle.model.specs.Calls.{choose, no-position, position-number, refused, refusals, unless, done, on-book}
 use Rattle.model.specs.Laws.Bounded.{clash, is-false}
 use Rattle.model.specs.Laws.Fits.{fits-below}
+use Rattle.model.specs.Laws.Step.{choose-none}
 use Rattle.model.specs.Laws.Steps.{step-bounds, fits-steps}
 use Rattle.model.specs.Laws.Limits.{limits-to}
 use Rattle.model.specs.Laws.Sound.{columns-said, sound-within}
@@ -164,16 +165,11 @@ module _ (d : Device) (b : Book) (t : List ℕ) where
 pub column-count : (r t : List ℕ) → Given r t → (n : ℕ) → n ≡ getD r columns-at 0 → (n ≡ columns (device-of r)) × (1 ≤ n) × (n ≤ max-columns)
 column-count r t a n e = omega (arith, columns-said r, some-columns r (a .sound), few-columns r (a .sound))
 
--- choose on the book: of its refusals only −9 can apply
-module _ (r t : List ℕ) (a : Given r t) where
-  nowhere : no-position (device-of r) (book-of r) t ≡ true → negℤ (pos 9) ≡ on-book (device-of r) (book-of r) (choose t) .answer
-  unfolding on-book unless refused refusals
-  nowhere e = rw (a .sized, a .formed, e)
-
-  somewhere : (q z : ℕ) → no-position (device-of r) (book-of r) t ≡ false → chosen (device-of r) (book-of r) t ≡ at q z
-      → pos (q * column-weight + z) ≡ on-book (device-of r) (book-of r) (choose t) .answer
-  unfolding on-book unless refused refusals done position-number
-  somewhere q z e f = rw (a .sized, a .formed, e, f)
+-- choose on the book where a position fits
+chosen-number : (r t : List ℕ) → Given r t → (q z : ℕ) → no-position (device-of r) (book-of r) t ≡ false → chosen (device-of r) (book-of r) t ≡ at q z
+    → pos (q * column-weight + z) ≡ on-book (device-of r) (book-of r) (choose t) .answer
+unfolding on-book unless refused refusals done position-number
+chosen-number r t a q z e f = rw (a .sized, a .formed, e, f)
 
 -- THEOREM: what is found in all columns is the choice
 pub chooses : (r t : List ℕ) → Given r t → (p : ℕ) (e : Best) → columns (device-of r) ≤ p → Best-of (device-of r) (book-of r) t p e → Chooses (device-of r) (book-of r) t e
@@ -193,8 +189,8 @@ chooses r t a p e l h = let q : p ≡ columns (device-of r) = omega (arith, h .w
     some-position q z e = is-false (no-position d b t) (λ k. let f = chosen-nothing-iff d b t (a .formed) n .1 k in let z : _≡_ {A = ℕ} 0 1 = cc in omega arith)
 
     go : (e : Best) → Is (judge d b t) (choice (judge d b t) (half-rows d) (columns d)) e → Chooses d b t e
-    go Nothing f = record { answer-is = nowhere r t a (chosen-nothing-iff d b t (a .formed) n .0 f); position-is = f; near = tt }
+    go Nothing f = record { answer-is = sym (choose-none d b t (a .sized) (a .formed) .1 (chosen-nothing-iff d b t (a .formed) n .0 f)); position-is = f; near = tt }
     go (At q z m s) (f, en, es) =
         let at = chosen-at d b t (a .formed) n q z f in
         let m = limits-to d b (sound-within r (a .sound)) in
-        record { answer-is = somewhere r t a q z (some-position q z f) f; position-is = (f, en, es); near = omega (arith, at .column, at .bottom, m .columns, m .rows) }
+        record { answer-is = chosen-number r t a q z (some-position q z f) f; position-is = (f, en, es); near = omega (arith, at .column, at .bottom, m .columns, m .rows) }

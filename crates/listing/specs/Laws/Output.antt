@@ -18,11 +18,12 @@ use Rattle.model.specs.Tasks.{step}
 use Rattle.model.specs.Book.{fits}
 use Rattle.model.specs.Listing.{Range, range-of, ranges}
 use Rattle.model.specs.Record.{bytes16, device-of, book-of}
-use Rattle.model.specs.Calls.{list, lent, range-bytes, over, no-position, refused, refusals, unless, done, on-book}
+use Rattle.model.specs.Calls.{list, lent, range-bytes, over, no-position, refused, refusals, unless, on-book}
 use Rattle.model.specs.Laws.Bounded.{true-or-false, is-false, map-append}
 use Rattle.model.specs.Laws.Parts.{splice, splice-none, splice-more, length-splice, set-two}
 use Rattle.model.specs.Laws.Listing.{join-append}
 use Rattle.model.specs.Laws.Limits.{limits-to}
+use Rattle.model.specs.Laws.Step.{list-done}
 use Rattle.model.specs.Laws.Steps.{step-bounds, fits-steps}
 use Rattle.model.specs.Laws.NoPosition.{ranges-none-iff}
 use Rattle.model.specs.Laws.Sound.{sound-within}
@@ -171,23 +172,18 @@ module _ (r t : List ℕ) (g : Given r t) (o₀ : List ℕ) (big : list-room ≤
 
   -- ---- the answer
 
-  -- list on the book: of its refusals only −9 can apply
+  -- list on the book where no position fits
   nowhere : no-position (device-of r) (book-of r) t ≡ true → on-book (device-of r) (book-of r) (list t o₀) ≡ record { answer = negℤ (pos 9); output = o₀; state = book-of r }
   unfolding on-book unless refused refusals lent
   nowhere e = rw (g .sized, g .formed, le-ltb (length o₀) list-room big, e)
 
-  somewhere : no-position (device-of r) (book-of r) t ≡ false → on-book (device-of r) (book-of r) (list t o₀) ≡ done (device-of r) (book-of r) (list t o₀)
-  unfolding on-book unless refused refusals
-  somewhere e = rw (g .sized, g .formed, le-ltb (length o₀) list-room big, e)
-
   -- a number of ranges is that of the model's
   pub count-is : (n : ℕ) (o : List ℕ) → Answers (Ranges n) (device-of r) (book-of r) t o₀ o → n ≡ length (ranges (device-of r) (book-of r) t)
-  unfolding done
   count-is n o h = go (true-or-false (no-position (device-of r) (book-of r) t))
     where
       go : (no-position (device-of r) (book-of r) t ≡ true) ⊎ (no-position (device-of r) (book-of r) t ≡ false) → n ≡ length (ranges (device-of r) (book-of r) t)
       go (inl e) = cc (rw (nowhere e) at (h .answer-is))
-      go (inr e) = cc (rw (somewhere e) at (h .answer-is))
+      go (inr e) = cc (rw (list-done (device-of r) (book-of r) t (g .sized) (g .formed) o₀ big e) at (h .answer-is))
 
   whole : (p n : ℕ) (o : List ℕ) → columns (device-of r) ≤ p → Written r t o₀ p n o → ranges-below r t p ≡ ranges (device-of r) (book-of r) t
   unfolding ranges
@@ -206,10 +202,10 @@ module _ (r t : List ℕ) (g : Given r t) (o₀ : List ℕ) (big : list-room ≤
       record { answer-is = rw q; output-is = rw q (w .bytes ∙ rw none (over-is [] o₀ ∙ splice-none o₀ 0)) }
 
   pub answer-some : (p n : ℕ) (o : List ℕ) → columns (device-of r) ≤ p → Written r t o₀ p n o → (n ≡ 0 → ⊥) → Answers (Ranges n) (device-of r) (book-of r) t o₀ o
-  unfolding done
   answer-some p n o l w h =
       let e = whole p n o l w in
-      let q = somewhere (is-false (no-position (device-of r) (book-of r) t) (λ z. h (w .count ∙ ap length (e ∙ ranges-none-iff (device-of r) (book-of r) t (some-blocks r t g) .1 z)))) in
+      let some = is-false (no-position (device-of r) (book-of r) t) (λ z. h (w .count ∙ ap length (e ∙ ranges-none-iff (device-of r) (book-of r) t (some-blocks r t g) .1 z))) in
+      let q = list-done (device-of r) (book-of r) t (g .sized) (g .formed) o₀ big some in
       record { answer-is = rw q (ap pos (w .count ∙ ap length e)); output-is = rw q (w .bytes ∙ rw e) }
 
   pub few-ranges : (p n : ℕ) (o : List ℕ) → Written r t o₀ p n o → n ≤ max-runs * max-columns
