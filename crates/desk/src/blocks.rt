@@ -1,6 +1,5 @@
 // The draft task: a block added, and what a line leaves of it.
 use crate::DRAFT_ROOM;
-use crate::TOO_MANY_BLOCKS;
 use crate::output;
 use line::call::BlockCall;
 ghost use mathlib.Core.Path.{_≡_};
@@ -24,7 +23,7 @@ pub fn leave(used: usize, printed: usize) -> Left
     }
 }
 
-// B: a block more in the draft, or the refusal of a 33rd block.
+// B: a block more in the draft. "A 33rd block prints −4 and is not added."
 pub fn add_block(
     draft: &mut [u8],
     used: usize,
@@ -39,5 +38,5 @@ pub fn add_block(
         line::block::put_block(draft, used, block);
         return leave(used + model::BLOCK_SIZE, 0);
     }
-    leave(used, output::say(out, number, TOO_MANY_BLOCKS))
+    leave(used, output::say(out, number, card::TASK_LENGTH))
 }

@@ -1,5 +1,5 @@
 // The input: where its lines end, and its first three lines.
-use crate::MALFORMED;
+use crate::MALFORMED_LINE;
 use crate::MAX_SHEET;
 use line::device::DeviceRead;
 ghost use mathlib.Core.Path.{_≡_};
@@ -32,7 +32,7 @@ fn new_card(line: &[u8], card: &mut [u8]) -> i32
 {
     let mut kinds = [0u8; line::MAX_LINE];
     let DeviceRead::Device { rows, count } = line::device::device_line(line, &mut kinds) else {
-        return MALFORMED;
+        return MALFORMED_LINE;
     };
     card::card_new(card, rows, &kinds[..count])
 }
@@ -43,7 +43,7 @@ fn malformed(line: u32) -> Begun
 {
     Begun::Fault {
         line: line,
-        answer: MALFORMED,
+        answer: MALFORMED_LINE,
     }
 }
 

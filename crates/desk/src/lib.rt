@@ -22,8 +22,5 @@ pub const DRAFT_ROOM: usize = model::BLOCK_SIZE * model::MAX_BLOCKS;
 // The bytes that the longest output of one line of input needs: a line for each range that a listing has room for.
 pub const OUTPUT_ROOM: usize = line::LINE_ROOM * (model::LIST_ROOM / model::RANGE_SIZE);
 
-// A 33rd block's refusal.
-pub const TOO_MANY_BLOCKS: i32 = -4;
-
 // A malformed line's refusal.
-pub const MALFORMED: i32 = -12;
+pub const MALFORMED_LINE: i32 = -12;

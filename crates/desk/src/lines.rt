@@ -3,7 +3,7 @@ ghost use lib.ListN.{take};
 ghost use Rattle.model.specs.Program.{on-call, on-line};
 ghost use Rattle.line.specs.Calls.{call-said};
 ghost use Rattle.desk.specs.Desk.{desk-of, Ready, Leaves};
-use crate::MALFORMED;
+use crate::MALFORMED_LINE;
 use crate::blocks;
 use crate::blocks::Left;
 use crate::blocks::leave;
@@ -60,7 +60,7 @@ pub fn on_line(
     ensures { λ r. ⌜ Leaves (on-line number (desk-of (now (card .entry)) (take used (now (draft .entry)))) (now (line .entry))) (now (card .exit)) (now (draft .exit)) (r .used) (now (out .exit)) (r .printed) ⌝ }
 {
     let Line::Does(call) = line::call::read(line) else {
-        return leave(used, output::say(out, number, MALFORMED));
+        return leave(used, output::say(out, number, MALFORMED_LINE));
     };
     on_call(card, draft, used, number, call, listing, out)
 }

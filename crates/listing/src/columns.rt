@@ -5,7 +5,6 @@ use crate::arrays::Runs;
 use crate::arrays::copy_runs;
 use crate::arrays::lower_runs;
 use crate::byte;
-use crate::walk::common_step;
 use crate::walk::meet_block;
 use model::Kind;
 ghost use mathlib.Core.Path.{_≡_};
@@ -89,7 +88,7 @@ fn meet_next(
     );
     Runs {
         count: n,
-        step: common_step(list.step, b.height()),
+        step: runs::lcm(list.step, b.height()),
     }
 }
 

@@ -9,7 +9,6 @@ use task::Block;
 ghost use mathlib.Core.Path.{_≡_};
 ghost use Prim.Native.Nat.{_*_, _≤_, _<_};
 ghost use lib.ListN.{length};
-ghost use Rattle.runs.specs.Meet.{Step, Lcm};
 ghost use Rattle.task.specs.Blocks.{seen};
 ghost use Rattle.model.specs.Limits.{reach, max-rows, max-columns, max-intervals, record-size};
 ghost use Rattle.model.specs.Columns.{height};
@@ -20,33 +19,6 @@ ghost use Rattle.listing.specs.Arrays.{read, Room, IntervalAt, Meetable,
 struct Interval {
     bottom: u32,
     top: u32,
-}
-
-// The step of what ranges of two steps both name: that of what two such ranges name at 0. Most often it is a.
-pub fn common_step(a: u32, b: u32) -> u32
-    requires { ⌜ Step a × Step b ⌝ }
-    ensures { λ r. ⌜ Lcm a b r ⌝ }
-{
-    if a == b {
-        return a;
-    }
-    if a % b == 0 {
-        return a;
-    }
-    let x = Range {
-        first: 0,
-        last: 0,
-        step: a,
-    };
-    let y = Range {
-        first: 0,
-        last: 0,
-        step: b,
-    };
-    let Met::Both(r) = runs::meet(x, y) else {
-        return 0;
-    };
-    r.step
 }
 
 // Interval j of column c.

@@ -12,7 +12,7 @@ use mathlib.Core.Bool.{Bool, true, false}
 use lib.Dec.{eqb}
 use borrow.Author.Tests.{eqb-true, eqb-false}
 use Rattle.runs.specs.Laws.Tests.{lt-or-ge}
-use Rattle.runs.specs.Meet.{Step, Proper, Both-of, Meets}
+use Rattle.runs.specs.Meet.{Both-of, Meets}
 use Rattle.runs.specs.declared.Range.{Range}
 use Rattle.runs.specs.declared.Met.{Met}
 use Rattle.runs.specs.declared.Met.the-variants.{Empty, Both}
@@ -193,15 +193,3 @@ joined-empty a b m O e h = inl (met-is a b m Empty e h, refl)
 
 pub met-both : (a b : Range) (m : Met) (r : Range) → m ≡ Both r → Meets a b m → Both-of a b r
 met-both a b m r e h = met-is a b m (Both r) e h
-
--- ---- the least common multiple, as the step of what two ranges name at 0
-
-proper-zero : (s : ℕ) → Step s → Proper (record { first = 0; last = 0; step = s })
-proper-zero s p = record { step = p; last = (0, omega arith); bound = omega arith }
-
-pub steps-proper : (a b : ℕ) → Step a × Step b → Proper (record { first = 0; last = 0; step = a }) × Proper (record { first = 0; last = 0; step = b })
-steps-proper a b (p, q) = (proper-zero a p, proper-zero b q)
-
--- both name 0
-pub zero-met : (a b : ℕ) (m : Met) → m ≡ Empty → Meets (record { first = 0; last = 0; step = a }) (record { first = 0; last = 0; step = b }) m → ⊥
-zero-met a b m e h = met-is _ _ m Empty e h 0 ((0, omega arith), omega arith) ((0, omega arith), omega arith)

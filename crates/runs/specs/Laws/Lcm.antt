@@ -8,7 +8,7 @@ use Rattle.runs.specs.Laws.Tests.{lt-or-ge}
 use Rattle.runs.specs.Runs.{Steps}
 use Rattle.runs.specs.Intervals.{Multiple}
 use Rattle.runs.specs.Meet.{step-limit, number-limit, Step, Lcm}
-use Rattle.runs.specs.Laws.Steps.{multiple-mod, multiple-le, multiple-steps, steps-back, steps-multiple}
+use Rattle.runs.specs.Laws.Steps.{multiple-le, multiple-steps, steps-back, steps-multiple}
 
 -- there is one
 pub lcm-unique : (a b l m : ℕ) → Lcm a b l → Lcm a b m → l ≡ m
@@ -30,9 +30,6 @@ lcm-left a b p q m = record {
 
 pub lcm-same : (a b : ℕ) → Step a → Step b → a ≡ b → Lcm a b a
 lcm-same a b p q e = lcm-left a b p q (1, omega arith)
-
-pub lcm-divides : (a b : ℕ) → Step a → Step b → a % b ≡ 0 → Lcm a b a
-lcm-divides a b p q e = lcm-left a b p q (multiple-mod b a e)
 
 -- a product of two steps is a two-byte number
 pub product-small : (a b : ℕ) → Step a → Step b → a * b < number-limit

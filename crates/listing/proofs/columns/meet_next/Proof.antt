@@ -34,8 +34,8 @@ meet-block-requires c κs =
 height-requires : tie.Need-height-requires
 height-requires c κs = search needs
 
-common-step-requires : tie.Need-common-step-requires
-common-step-requires c κs =
+lcm-requires : tie.Need-lcm-requires
+lcm-requires c κs =
     let s = c .before .before .before .before .before .before .before .before .before .before .before .before .before .before .before .before .before .before .before .before .before .before .before .before .before .before .before in
     next-steps (s .args .«record» .now) (s .args .task .now) (s .args .p) (s .args .k) (s .args .list .count) (s .args .list .step) (s .args .firsts .now) (s .args .lasts .now) (s .pre .0) (c .before .before .before .before .before .before .before .before .before .before .before .before .before .before .before .before .before .before .before .before .block-at .result) (c .before .before .before .before .before .before .before .before .before .before .before .before .before .before .before .before .before .before .before .before .block-at .ensures) (c .height .result) (c .height .ensures)
 
@@ -57,7 +57,7 @@ returns c =
     let y = c .before .before .before .before .before .before .before .before .before .before .before .before .before .before .before .before .copy-runs in
     let z = c .before .before .before .before .before .before .meet-block in
     next-lifted (s .args .«record» .now) (s .args .task .now) (s .args .p) (s .args .k) (s .args .list .count) (s .args .list .step) (s .args .firsts .now) (s .args .lasts .now) (s .pre .0) (c .before .before .before .before .before .before .before .before .before .before .before .before .before .before .before .before .before .before .before .before .before .block-at .result) (c .before .before .before .before .before .before .before .before .before .before .before .before .before .before .before .before .before .before .before .before .before .block-at .ensures) (y .last .1 .1 .1 .0) (y .last .1 .1 .1 .1 .0) (z .last .1 .1 .1 .1 .1 .1 .0) (z .last .1 .1 .1 .1 .1 .1 .1 .0)
-    (z .result) (c .before .height .result) (c .common-step .result) (y .ensures) (z .ensures) (c .before .height .ensures) (c .common-step .ensures)
+    (z .result) (c .before .height .result) (c .lcm .result) (y .ensures) (z .ensures) (c .before .height .ensures) (c .lcm .ensures)
 
 pub meet-next-spec : {M : Type 1} → statement M
 meet-next-spec =
@@ -69,7 +69,7 @@ meet-next-spec =
     add-meet-block
     meet-block-requires
     height-requires
-    common-step-requires
+    lcm-requires
     same-length
     same-length-2
     same-length-3
