@@ -5,11 +5,11 @@ use mathlib.Core.Bool.{true}
 use mathlib.Core.List.{List}
 use native.Mathlib.Omega.{arith}
 use lib.IntN.{ℤ, pos, negsuc}
-use lib.ListN.{length, getD, take, drop}
+use lib.ListN.{getD, take, drop}
 use mir.Syntax.{w32}
 use mir.Val.{toZ}
 use mir.Facts.{toZ-pos}
-use Rattle.model.specs.Limits.{max-columns, max-intervals, record-size, columns-at, counts-at, interval-size}
+use Rattle.model.specs.Limits.{columns-at, counts-at, interval-size}
 use Rattle.model.specs.Columns.{columns}
 use Rattle.model.specs.Record.{device-of, book-of, part, column-at}
 use Rattle.model.specs.Sound.{sound, count-of}
@@ -20,17 +20,12 @@ use Rattle.model.specs.Laws.Record.{record-count}
 use Rattle.model.specs.Laws.Sound.{columns-said, sound-record}
 use Rattle.model.specs.Laws.Clauses.{clauses-to}
 use Rattle.model.specs.Laws.OnRecord.{count-no-column, count-done}
+use Rattle.record.specs.Fits.{Listed}
 use Rattle.card.specs.declared.Check.{Check}
 use Rattle.card.specs.declared.Check.the-variants.{Pass, Refuse}
 use Rattle.card.specs.Leaves.{Uncounted, ChecksColumn}
 use Rattle.card.specs.Laws.Answers.{answers}
 use Rattle.card.specs.Laws.Checks.{uncounted}
-
--- where a column's count and its intervals stand in the record
-pub record Counted (r : List ℕ) (k : ℕ) : Type 0 where
-  pub size : length r ≡ record-size
-  pub column : k < max-columns
-  pub few : count-of r k ≤ max-intervals
 
 module _ (r : List ℕ) (k : ℕ) where
   pub count-none : sound r ≡ true → getD r columns-at 0 ≤ k → Uncounted r k (negsuc 2)
@@ -44,7 +39,7 @@ module _ (r : List ℕ) (k : ℕ) where
     count-refused e = rw e at h
 
     module _ (e : x ≡ Pass) where
-      pub counted : Counted r k
+      pub counted : Listed r k
       counted =
           let (s, l) = rw e at h in
           let c = clauses-to r s in

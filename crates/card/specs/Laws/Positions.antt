@@ -1,7 +1,6 @@
 -- List and choose, return by return. Assumes nothing.
 use Prim.Native.Nat.{ℕ, _+_, _*_, _≤_, _<_}
-use mathlib.Core.Path.{_≡_, refl, sym, ap, _∙_}
-use mathlib.Core.Bool.{true}
+use mathlib.Core.Path.{_≡_, refl, sym, _∙_}
 use mathlib.Core.List.{List}
 use native.Mathlib.Omega.{arith}
 use borrow.Author.Tests.{lt-ltb}
@@ -15,14 +14,13 @@ use Rattle.model.specs.Columns.{columns}
 use Rattle.model.specs.Tasks.{sized}
 use Rattle.model.specs.Record.{device-of, book-of}
 use Rattle.model.specs.Sound.{sound}
-use Rattle.model.specs.Calls.{Call, list, choose, lent, refused, refusals, on-book}
+use Rattle.model.specs.Calls.{list, choose, lent, refused, refusals}
 use Rattle.model.specs.OnRecord.{written, on-record}
 use Rattle.model.specs.Laws.WriteBack.{Bytes}
 use Rattle.model.specs.Laws.Limits.{limits-to}
 use Rattle.model.specs.Laws.Listing.{ranges-length}
-use Rattle.model.specs.Laws.Sound.{sound-within, sound-record}
-use Rattle.model.specs.Laws.OnRecord.{refused-call}
-use Rattle.model.specs.Laws.Step.{same-step}
+use Rattle.model.specs.Laws.Sound.{sound-within}
+use Rattle.model.specs.Laws.OnRecord.{sound-call, refused-call}
 use Rattle.listing.specs.Columns.{Given}
 use Rattle.listing.specs.Output.{answer-of, Answers}
 use Rattle.listing.specs.Laws.Output.{count-is}
@@ -35,10 +33,6 @@ use Rattle.card.specs.declared.Check.{Check}
 use Rattle.card.specs.declared.Check.the-variants.{Refuse}
 use Rattle.card.specs.Leaves.{Writes, ChecksTask}
 use Rattle.card.specs.Laws.Answers.{answers, writes}
-
--- a call on a sound record is the call on its book
-on-sound : (r : List ℕ) → Bytes r → sound r ≡ true → (c : Call) → on-record r c ≡ written (device-of r) (on-book (device-of r) (book-of r) c)
-on-sound r B s c = ap (λ (q : List ℕ). on-record q c) (sound-record r B s) ∙ same-step (device-of r) (book-of r) c (sound-within r s)
 
 -- ---- list
 
@@ -54,9 +48,9 @@ module _ (r t o : List ℕ) (x : Given r t) where
 
   module _ (l : list-room ≤ length o) (a : Listed) (p : List ℕ) (h : Answers a (device-of r) (book-of r) t o p) where
     -- the answer of each case
-    pub list-answers : Bytes r → {z : ℤ} → answer-of a ≡ z → Writes (on-record r (list t o)) z p
+    pub list-answers : {z : ℤ} → answer-of a ≡ z → Writes (on-record r (list t o)) z p
     unfolding written
-    list-answers B e = let q = on-sound r B (x .sound) (list t o) in record { answer-is = rw q (sym e ∙ h .answer-is); output-is = rw q (h .output-is) }
+    list-answers e = let q = sound-call r (list t o) (x .sound) in record { answer-is = rw q (sym e ∙ h .answer-is); output-is = rw q (h .output-is) }
 
     -- there are at most 64 ranges in each column
     few-ranges : (n : ℕ) → a ≡ Ranges n → n ≤ max-intervals * max-columns
@@ -79,9 +73,9 @@ choose-refused r t x h e = answers ((rw e at h) (choose t) refl)
 
 module _ (r t : List ℕ) (x : Given r t) (a : Best) (h : Chooses (device-of r) (book-of r) t a) where
   -- the answer of each case
-  pub choose-answers : Bytes r → {z : ℤ} → best-answer a ≡ z → z ≡ on-record r (choose t) .answer
+  pub choose-answers : {z : ℤ} → best-answer a ≡ z → z ≡ on-record r (choose t) .answer
   unfolding written
-  choose-answers B e = rw (on-sound r B (x .sound) (choose t)) (sym e ∙ h .answer-is)
+  choose-answers e = rw (sound-call r (choose t) (x .sound)) (sym e ∙ h .answer-is)
 
   module _ (q z n s : ℕ) (e : a ≡ BestAt q z n s) where
     -- column × 1,024 + bottom is small

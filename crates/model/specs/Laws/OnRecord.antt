@@ -36,7 +36,8 @@ module _ (r : List ℕ) (c : Call) where
   not-sound-call h s = rw (eq-eqb (length r) record-size h, s)
 
   module _ (s : sound r ≡ true) where
-    sound-call : on-record r c ≡ written (device-of r) (on-book (device-of r) (book-of r) c)
+    -- a call on a sound record is the call on its book
+    pub sound-call : on-record r c ≡ written (device-of r) (on-book (device-of r) (book-of r) c)
     unfolding on-record unless refused
     sound-call = rw (eq-eqb (length r) record-size (sound-length r s), s)
 
