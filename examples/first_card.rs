@@ -38,12 +38,17 @@ pub fn run(out: &mut impl Write) -> Result<(), Box<dyn Error>> {
         writeln!(out, "The same circuit once more: {refusal}.")?;
     }
 
+    load_and_unload(&mut card, out)
+}
+
+/// A second circuit beside the first, the card drawn, and the first one unloaded.
+fn load_and_unload(card: &mut Card, out: &mut impl Write) -> Result<(), Box<dyn Error>> {
     // A task of one block is shorter to write: logic, two cells of 2 half rows.
     let small = Task::of(Kind::C, 4);
     let best = card.choose(&small)?;
     card.place(&small, 8, best)?;
     writeln!(out, "A small one, loaded as number 8 at {best}. The card:")?;
-    draw(&card, out)?;
+    draw(card, out)?;
 
     // Release unloads. The freed cells are joined to free neighbours on both sides.
     card.release(7)?;
