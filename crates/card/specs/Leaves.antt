@@ -17,15 +17,15 @@ use Rattle.listing.specs.Columns.{Given}
 use Rattle.card.specs.declared.Check.{Check}
 use Rattle.card.specs.declared.Check.the-variants.{Pass, Refuse}
 
--- a call that may change the record: its answer and the record's bytes are the outcome's
-pub record Changes (o : Outcome (List ℕ)) (answer : ℤ) (bytes : List ℕ) : Type 0 where
+-- what a call leaves is the outcome's: its answer, every byte of the record, and every byte of its output, [] where it has none
+pub record Leaves (o : Outcome (List ℕ)) (answer : ℤ) (bytes output : List ℕ) : Type 0 where
   pub answer-is : answer ≡ o .answer
   pub record-is : bytes ≡ o .state
-
--- a call that leaves the record and writes to a lent output
-pub record Writes (o : Outcome (List ℕ)) (answer : ℤ) (output : List ℕ) : Type 0 where
-  pub answer-is : answer ≡ o .answer
   pub output-is : output ≡ o .output
+
+-- a call that may change the record, and has no output
+abbrev pub Changes : Outcome (List ℕ) → ℤ → List ℕ → Type 0
+Changes o answer bytes = Leaves o answer bytes []
 
 -- ---- what the checks before a call answer: that they passed, or a refusal
 
@@ -33,9 +33,9 @@ pub record Writes (o : Outcome (List ℕ)) (answer : ℤ) (output : List ℕ) : 
 abbrev pub Refused : List ℕ → ℤ → Call → Type 0
 Refused r z c = on-record r c ≡ record { answer = z; output = lent c; state = r }
 
--- column k has no interval count and no view: z is answered for it
+-- column k has no interval count and no view: z is answered for it, and nothing changes
 abbrev pub Uncounted : List ℕ → ℕ → ℤ → Type 0
-Uncounted r k z = (z ≡ interval-count r k .answer) × ([] ≡ view r k)
+Uncounted r k z = (interval-count r k ≡ record { answer = z; output = []; state = r }) × ([] ≡ view r k)
 
 -- a refusal of the record is that of every call on it
 abbrev pub ChecksRecord : List ℕ → Check → Type 0

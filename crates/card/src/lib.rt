@@ -1,11 +1,13 @@
 // The calls on one card's record, for the match server: exported with the C calling form, save the view.
 // Each contract equates the answer and every lent byte with document 01's call on that byte string (model/specs/OnRecord.antt), refusals included.
+// In a contract `.entry` is what lies behind a reference as the call starts, and `.exit` as it returns.
 // `on-record` is also the step of the theorem about whole histories (model/specs/Laws/History.antt).
 use choice::Best;
 use listing::output::Listed;
 use record::entries::Found;
 ghost use mathlib.Core.Path.{_≡_};
 ghost use mathlib.Core.Bool.{true};
+ghost use mathlib.Core.List.{[]};
 ghost use lib.Dec.{leb};
 ghost use lib.ListN.{length};
 ghost use Rattle.model.specs.Limits.{max-running};
@@ -15,7 +17,7 @@ ghost use Rattle.model.specs.Sound.{sound, number-ok};
 ghost use Rattle.model.specs.Calls.{list, choose, place, release, runs-in};
 ghost use Rattle.model.specs.OnRecord.{on-record, new, interval-count, view};
 ghost use Rattle.listing.specs.Columns.{Given};
-ghost use Rattle.card.specs.Leaves.{Changes, Writes, ChecksRecord, ChecksTask, ChecksPlace, ChecksRelease, ChecksColumn};
+ghost use Rattle.card.specs.Leaves.{Leaves, Changes, ChecksRecord, ChecksTask, ChecksPlace, ChecksRelease, ChecksColumn};
 
 // Document 01's table of refusals; −3 is new's for a malformed device, and the interval count's for a missing column.
 pub const RECORD_LENGTH: i32 = -1;
@@ -205,7 +207,7 @@ pub extern "C" fn card_release(record: &mut [u8], number: u32) -> i32
 // The listing of a well-formed task on a sound record.
 fn list_task(record: &[u8], task: &[u8], output: &mut [u8]) -> i32
     requires { ⌜ Given (now «record») (now task) ⌝ }
-    ensures { λ r. ⌜ Writes (on-record (now («record» .entry)) (list (now (task .entry)) (now (output .entry)))) r (now (output .exit)) ⌝ }
+    ensures { λ r. ⌜ Leaves (on-record (now («record» .entry)) (list (now (task .entry)) (now (output .entry)))) r (now («record» .exit)) (now (output .exit)) ⌝ }
 {
     if output.len() < model::LIST_ROOM {
         return OUTPUT_SHORT;
@@ -219,7 +221,7 @@ fn list_task(record: &[u8], task: &[u8], output: &mut [u8]) -> i32
 // Writes the ranges of the positions at which a task fits.
 #[no_mangle]
 pub extern "C" fn card_list(record: &[u8], task: &[u8], output: &mut [u8]) -> i32
-    ensures { λ r. ⌜ Writes (on-record (now («record» .entry)) (list (now (task .entry)) (now (output .entry)))) r (now (output .exit)) ⌝ }
+    ensures { λ r. ⌜ Leaves (on-record (now («record» .entry)) (list (now (task .entry)) (now (output .entry)))) r (now («record» .exit)) (now (output .exit)) ⌝ }
 {
     match check_task(record, task) {
         Check::Refuse(answer) => answer,
@@ -230,7 +232,7 @@ pub extern "C" fn card_list(record: &[u8], task: &[u8], output: &mut [u8]) -> i3
 // The choice for a well-formed task on a sound record.
 fn choose_task(record: &[u8], task: &[u8]) -> i32
     requires { ⌜ Given (now «record») (now task) ⌝ }
-    ensures { λ r. ⌜ r ≡ on-record (now («record» .entry)) (choose (now (task .entry))) .answer ⌝ }
+    ensures { λ r. ⌜ Leaves (on-record (now («record» .entry)) (choose (now (task .entry)))) r (now («record» .exit)) [] ⌝ }
 {
     match choice::best_position(record, task) {
         Best::Nothing => NO_POSITION,
@@ -241,7 +243,7 @@ fn choose_task(record: &[u8], task: &[u8]) -> i32
 // The best of the positions at which a task fits, as column × 1,024 + bottom.
 #[no_mangle]
 pub extern "C" fn card_choose(record: &[u8], task: &[u8]) -> i32
-    ensures { λ r. ⌜ r ≡ on-record (now («record» .entry)) (choose (now (task .entry))) .answer ⌝ }
+    ensures { λ r. ⌜ Leaves (on-record (now («record» .entry)) (choose (now (task .entry)))) r (now («record» .exit)) [] ⌝ }
 {
     match check_task(record, task) {
         Check::Refuse(answer) => answer,
@@ -266,7 +268,7 @@ fn check_column(record: &[u8], column: u32) -> Check
 // The number of free intervals of a column.
 #[no_mangle]
 pub extern "C" fn card_interval_count(record: &[u8], column: u32) -> i32
-    ensures { λ r. ⌜ r ≡ interval-count (now («record» .entry)) column .answer ⌝ }
+    ensures { λ r. ⌜ Leaves (interval-count (now («record» .entry)) column) r (now («record» .exit)) [] ⌝ }
 {
     match check_column(record, column) {
         Check::Refuse(answer) => answer,

@@ -16,8 +16,7 @@ use Rattle.model.specs.Tasks.{step}
 use Rattle.model.specs.Book.{Book, Placed, placed, fits, intervals}
 use Rattle.model.specs.Choice.{home, Judge, judge, Found, nothing, at, climb, chosen}
 use Rattle.model.specs.Calls.{choose, on-book}
-use Rattle.model.specs.Laws.Homes.{bit}
-use Rattle.model.specs.Laws.Raised.{Room}
+use Rattle.model.specs.Homes.{bit, Room}
 use Rattle.choice.specs.declared.Seat.{Seat}
 use Rattle.choice.specs.declared.Score.{Score}
 use Rattle.choice.specs.declared.Best.{Best}

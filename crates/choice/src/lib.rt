@@ -14,7 +14,7 @@ ghost use Rattle.model.specs.Book.{placed, fits, intervals};
 ghost use Rattle.model.specs.Choice.{holder, judge};
 ghost use Rattle.model.specs.Record.{device-of, book-of};
 ghost use Rattle.model.specs.Sound.{sound};
-ghost use Rattle.model.specs.Laws.Homes.{bit};
+ghost use Rattle.model.specs.Homes.{bit};
 ghost use Rattle.listing.specs.Arrays.{Room};
 ghost use Rattle.listing.specs.Columns.{Given, ranges-in};
 ghost use Rattle.choice.specs.Choosing.{Seated, piece-below, pieces-of, max-pieces, max-stretch, Scored, Small, better-of, Rises, Climbed, FitsRange, RangesAre, Chooses};

@@ -5,7 +5,7 @@ use mathlib.Core.Path.{_≡_}
 use mathlib.Core.List.{List, _∷_, _++_}
 use lib.ListN.{length}
 use Rattle.model.specs.Sheet.{text, output-names}
-use Rattle.model.specs.Laws.Parts.{splice}
+use Rattle.model.specs.Parts.{splice}
 
 -- the text stands from byte `at` on, all other bytes are as before, and `next` is the place after it
 pub record Printed (before after : List ℕ) (at next : ℕ) (text : List ℕ) : Type 0 where

@@ -5,7 +5,7 @@ ghost use mir.Syntax.{w16};
 ghost use mir.Val.{ofZ};
 ghost use Prim.Native.Nat.{_+_, _≤_, _<_};
 ghost use Rattle.model.specs.Limits.{block-size, words};
-ghost use Rattle.model.specs.Laws.Parts.{splice};
+ghost use Rattle.model.specs.Parts.{splice};
 ghost use Rattle.line.specs.Block.{call-bytes};
 use crate::call::BlockCall;
 

@@ -2,9 +2,8 @@
 ghost use mathlib.Core.Path.{_≡_};
 ghost use lib.ListN.{length};
 ghost use Prim.Native.Nat.{_≤_};
-ghost use Rattle.model.specs.Limits.{max-line};
-ghost use Rattle.model.specs.Laws.Parts.{splice};
 ghost use Rattle.model.specs.Sheet.{first-names, second-names, kind-letters, device-line};
+ghost use Rattle.model.specs.Parts.{splice};
 ghost use Rattle.words.specs.Words.{Same};
 ghost use Rattle.line.specs.Device.{known, kind-or-zero, kinds-of, Reads};
 use crate::MAX_LINE;
@@ -70,8 +69,7 @@ fn put_kinds(letters: &[u8], kinds: &mut [u8])
 }
 
 // The device of a line: its kinds go to the front of `kinds`, which stays as it was where the line is malformed.
-pub fn device_line(line: &[u8], kinds: &mut [u8]) -> DeviceRead
-    requires { ⌜ max-line ≤ length (now kinds) ⌝ }
+pub fn device_line(line: &[u8], kinds: &mut [u8; MAX_LINE]) -> DeviceRead
     ensures { λ r. ⌜ Reads (device-line (now (line .entry))) r (now (kinds .entry)) (now (kinds .exit)) ⌝ }
 {
     if MAX_LINE < line.len() {

@@ -6,8 +6,7 @@ use mathlib.Core.List.{List, [], _∷_, _++_}
 use lib.ListN.{length, getD}
 use Rattle.runs.specs.Runs.{Run, run, Mem, Canon, push}
 use Rattle.runs.specs.Intervals.{Apart, Multiple, OnGrid}
-use Rattle.runs.specs.Meet.{Step, Proper, Lcm, Both-of, Meets}
-use Rattle.runs.specs.Laws.Both.{Spaced, Meeting}
+use Rattle.runs.specs.Meet.{Step, Proper, Lcm, Both-of, Meets, Spaced, Meeting}
 use Rattle.runs.specs.declared.Range.{Range}
 use Rattle.runs.specs.declared.Met.the-variants.{Empty}
 use Rattle.model.specs.Limits.{words, max-rows, max-columns, max-intervals, interval-size, record-size, reach}

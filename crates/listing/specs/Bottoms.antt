@@ -12,7 +12,7 @@ use Rattle.model.specs.Limits.{reach, max-rows}
 use Rattle.model.specs.Columns.{Device, height}
 use Rattle.model.specs.Tasks.{block}
 use Rattle.model.specs.Book.{Book, block-fits}
-use Rattle.model.specs.Laws.Steps.{Common}
+use Rattle.model.specs.Blocks.{Common}
 
 abbrev pub lift : ℕ
 lift = 2 * reach

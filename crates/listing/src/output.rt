@@ -10,7 +10,7 @@ ghost use Rattle.model.specs.Limits.{range-size, list-room};
 ghost use Rattle.model.specs.Listing.{range-of};
 ghost use Rattle.model.specs.Record.{device-of, book-of};
 ghost use Rattle.model.specs.Calls.{range-bytes};
-ghost use Rattle.model.specs.Laws.Parts.{splice};
+ghost use Rattle.model.specs.Parts.{splice};
 ghost use Rattle.listing.specs.Arrays.{read};
 ghost use Rattle.listing.specs.Columns.{Given};
 ghost use Rattle.listing.specs.Output.{Writable, AllWritable, column-bytes, Answers};

@@ -15,7 +15,15 @@ pub mod History
 pub mod Demand3
 pub mod Sheet
 pub mod Program
+-- computed from them
 pub mod SmallCards
 pub mod SheetLines
 pub mod ExampleSheet
+pub mod ExampleRecord
+-- what the contracts of the steps of a call cite beside them
+pub mod Parts
+pub mod InPlace
+pub mod Blocks
+pub mod Homes
+-- what is proved
 pub mod Laws

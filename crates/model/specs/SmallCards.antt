@@ -72,7 +72,7 @@ K1 = card 2 (1 ∷ [])
 K2 : Device
 K2 = card 3 (1 ∷ [])
 
-K3 : Device
+unfoldable pub K3 : Device
 K3 = card 5 (0 ∷ 0 ∷ 1 ∷ [])
 
 K4 : Device
@@ -98,11 +98,11 @@ B-5 : List ℕ
 B-5 = B-block 0 0 5
 
 -- lines 4 to 6 of the sheet
-lines-4-6 : List ℕ
+unfoldable pub lines-4-6 : List ℕ
 lines-4-6 = C-block 0 0 2 ++ block-bytes 1 0 (negsuc 1) (pos 2) ++ B-block 2 1 6
 
 -- the same placed by line 8
-line-8 : List Call
+unfoldable pub line-8 : List Call
 line-8 = place lines-4-6 7 0 (pos 4) ∷ []
 
 K4-task : List ℕ

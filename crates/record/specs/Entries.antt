@@ -11,9 +11,7 @@ use Rattle.model.specs.Book.{Running, Book}
 use Rattle.model.specs.Calls.{insert, runs-in}
 use Rattle.model.specs.Record.{entry-at, entry-part, head-bytes, book-of}
 use Rattle.model.specs.Sound.{block-count}
-use Rattle.model.specs.Laws.Layout.{Reads}
-use Rattle.model.specs.Laws.Record.{no-entry}
-use Rattle.model.specs.Laws.Entries.{place}
+use Rattle.model.specs.InPlace.{Reads, no-entry, place}
 use Rattle.record.specs.declared.entries.Entry.{Entry}
 use Rattle.record.specs.declared.entries.Found.{Found}
 use Rattle.record.specs.declared.entries.Found.the-variants.{At, Nowhere}

@@ -9,7 +9,7 @@ use Rattle.model.specs.Limits.{max-rows, max-columns, max-intervals, record-siz
 use Rattle.model.specs.Tasks.{Block}
 use Rattle.model.specs.Record.{listed-intervals}
 use Rattle.model.specs.Sound.{count-of, sound}
-use Rattle.model.specs.Laws.Tasks.{Solid}
+use Rattle.model.specs.Blocks.{Solid}
 
 -- r has the length of a record, and column c's part lists no more intervals than it has room for
 pub record Listed (r : List ℕ) (c : ℕ) : Type 0 where

@@ -10,7 +10,7 @@ use Rattle.model.specs.Book.{Book, fits}
 use Rattle.model.specs.Record.{record-of, device-of, book-of}
 use Rattle.model.specs.Sound.{number-ok, within, block-count, sound}
 use Rattle.model.specs.Calls.{insert}
-use Rattle.model.specs.Laws.Record.{no-entry}
+use Rattle.model.specs.InPlace.{no-entry}
 use Rattle.record.specs.Entries.{entry-of}
 
 -- the number of the task before task j of a book, or m where there is none before it

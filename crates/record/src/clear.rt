@@ -19,7 +19,7 @@ ghost use Rattle.runs.specs.Intervals.{interval, piece};
 ghost use Rattle.model.specs.Limits.{max-rows, max-kind, words, record-size, kinds-at};
 ghost use Rattle.model.specs.Columns.{top-in, device-ok};
 ghost use Rattle.model.specs.Record.{column-part, record-of};
-ghost use Rattle.model.specs.Laws.Record.{put-column};
+ghost use Rattle.model.specs.InPlace.{put-column};
 ghost use Rattle.record.specs.Clear.{Closed};
 
 // The top of the last cell of a column of the kind that a kind byte says.

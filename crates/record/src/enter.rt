@@ -18,7 +18,7 @@ ghost use Rattle.model.specs.Book.{placed};
 ghost use Rattle.model.specs.Calls.{insert};
 ghost use Rattle.model.specs.Record.{part, column-at, record-of, device-of, book-of};
 ghost use Rattle.model.specs.Sound.{count-of, number-ok};
-ghost use Rattle.model.specs.Laws.Record.{put-column};
+ghost use Rattle.model.specs.InPlace.{put-column};
 ghost use Rattle.column.specs.Part.{Room};
 ghost use Rattle.record.specs.Columns.{column-list};
 ghost use Rattle.record.specs.Enter.{taken, Placeable};

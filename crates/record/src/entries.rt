@@ -21,9 +21,8 @@ ghost use Rattle.model.specs.Limits.{max-running, words, record-size, running-a
 ghost use Rattle.model.specs.Tasks.{word, sized};
 ghost use Rattle.model.specs.Record.{padded, part, entry-bytes, entry-at, book-of};
 ghost use Rattle.model.specs.Sound.{sound};
-ghost use Rattle.model.specs.Laws.Parts.{splice};
-ghost use Rattle.model.specs.Laws.Slots.{raised, lowered};
-ghost use Rattle.model.specs.Laws.Entries.{place};
+ghost use Rattle.model.specs.Parts.{splice, raised, lowered};
+ghost use Rattle.model.specs.InPlace.{place};
 ghost use Rattle.record.specs.Entries.{Finds, Says, Moved, Entered, Removed};
 
 // Where the task of a number runs.

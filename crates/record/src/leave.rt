@@ -17,7 +17,7 @@ ghost use Rattle.model.specs.Limits.{max-columns, record-size, column-size};
 ghost use Rattle.model.specs.Calls.{without, runs-in};
 ghost use Rattle.model.specs.Record.{part, column-at, record-of, device-of, book-of};
 ghost use Rattle.model.specs.Sound.{sound, count-of};
-ghost use Rattle.model.specs.Laws.Record.{put-column};
+ghost use Rattle.model.specs.InPlace.{put-column};
 ghost use Rattle.column.specs.Part.{Joinable};
 ghost use Rattle.record.specs.Columns.{column-list};
 ghost use Rattle.record.specs.Leave.{Runs, freed-entry};

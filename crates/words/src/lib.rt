@@ -4,7 +4,7 @@ ghost use Prim.Native.Nat.{_+_, _<_};
 ghost use lib.ListN.{length, replicate};
 ghost use Rattle.model.specs.Limits.{words};
 ghost use Rattle.model.specs.Record.{bytes16};
-ghost use Rattle.model.specs.Laws.Parts.{splice};
+ghost use Rattle.model.specs.Parts.{splice};
 ghost use Rattle.words.specs.Words.{Widened, Read16, Same};
 
 // Slices are compared in blocks of this many bytes.

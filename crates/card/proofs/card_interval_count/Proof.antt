@@ -5,6 +5,7 @@ use native.Mathlib.Omega.{arith}
 use mir.Syntax.{w32}
 use Rattle.model.specs.Limits.{counts-at}
 use Rattle.signed.proofs.Signed.{read}
+use Rattle.card.specs.Laws.Answers.{leaves}
 use Rattle.card.specs.Laws.Intervals.{count-refused, counted, count-done-at}
 use Rattle.card.proofs.card_interval_count.Statement.{statement}
 use Rattle.card.proofs.card_interval_count.Tie as tie
@@ -31,7 +32,7 @@ cast-result : tie.Need-cast-result
 cast-result c = record { sfits = omega (arith, c .shared-slice-known2 .given (counts-at + c .before .before .before .before .before .args .column)) }
 
 returns : tie.Need-returns
-returns c = rw (read w32 (c .known-told .given .0 .1)) (count-refused _ _ _ (c .before .before .before .check-column .ensures) (c .before .answer .given .1) .0)
+returns c = rw (read w32 (c .known-told .given .0 .1)) (leaves (count-refused _ _ _ (c .before .before .before .check-column .ensures) (c .before .answer .given .1) .0))
 
 returns-2 : tie.Need-returns-2
 returns-2 c =

@@ -2,7 +2,7 @@
 use borrow.Author.Needs.{needs}
 use mir.Syntax.{w32}
 use Rattle.signed.proofs.Signed.{read}
-use Rattle.card.specs.Laws.Answers.{changes}
+use Rattle.card.specs.Laws.Answers.{leaves}
 use Rattle.card.specs.Laws.Place.{check-placing, fits-natural, fits-casts, place-refused, placeable, place-done}
 use Rattle.card.proofs.card_place.Statement.{statement}
 use Rattle.card.proofs.card_place.Tie as tie
@@ -36,7 +36,7 @@ returns : tie.Need-returns
 returns c =
     let k = c .before .before .before in
     let f = k .before .before .before .before .fits .bottom in
-    rw (read w32 (c .known-told .given .0 .1)) (changes (place-refused _ _ _ _ _ f (k .check-place .ensures) (c .before .answer .given .1)))
+    rw (read w32 (c .known-told .given .0 .1)) (place-refused _ _ _ _ _ f (k .check-place .ensures) (c .before .answer .given .1))
 
 same-length-2 : tie.Need-same-length-2
 same-length-2 c = search needs
@@ -46,7 +46,7 @@ returns-2 c =
     let e = c .before .before .before .before in
     let f = e .before .before .before .before .before .before .fits .bottom in
     let x = check-placing _ _ _ _ _ f (e .before .before .check-place .ensures) (e .enum-told .given .1) in
-    rw (c .before .before .enter .ensures) (changes (place-done _ _ _ _ _ _ x (fits-natural _ _ _ _ f (x .fits))))
+    rw (c .before .before .enter .ensures) (leaves (place-done _ _ _ _ _ _ x (fits-natural _ _ _ _ f (x .fits))))
 
 pub card-place-spec : {M : Type 1} → statement M
 card-place-spec =

@@ -2,7 +2,7 @@
 use borrow.Author.Needs.{needs}
 use mir.Syntax.{w32}
 use Rattle.signed.proofs.Signed.{read}
-use Rattle.card.specs.Laws.Answers.{changes}
+use Rattle.card.specs.Laws.Answers.{leaves}
 use Rattle.card.specs.Laws.Release.{release-refused, release-passed, release-done}
 use Rattle.card.proofs.card_release.Statement.{statement}
 use Rattle.card.proofs.card_release.Tie as tie
@@ -23,7 +23,7 @@ same-length : tie.Need-same-length
 same-length c = search needs
 
 returns : tie.Need-returns
-returns c = rw (read w32 (c .known-told .given .0 .1)) (changes (release-refused _ _ _ (c .before .before .before .check-release .ensures) (c .before .answer .given .1)))
+returns c = rw (read w32 (c .known-told .given .0 .1)) (release-refused _ _ _ (c .before .before .before .check-release .ensures) (c .before .answer .given .1))
 
 same-length-2 : tie.Need-same-length-2
 same-length-2 c = search needs
@@ -32,7 +32,7 @@ returns-2 : tie.Need-returns-2
 returns-2 c =
     let l = c .before .before in
     let e = l .before .before in
-    rw (l .leave .ensures) (changes (release-done _ _ _ (e .before .before .check-release .ensures) (e .enum-told .given .1)))
+    rw (l .leave .ensures) (leaves (release-done _ _ _ (e .before .before .check-release .ensures) (e .enum-told .given .1)))
 
 pub card-release-spec : {M : Type 1} → statement M
 card-release-spec =

@@ -35,13 +35,13 @@ returns : tie.Need-returns
 returns c =
     let b = c .before .before in
     let a = b .before .before in
-    choose-answers _ _ (a .before .pre) _ (b .best-position .ensures) (ap answer-of (c .enum-told .given .1))
+    choose-answers _ _ (a .before .pre) _ (b .best-position .ensures) (λ i. omega (arith, a .shared-slice-known .given i)) (ap answer-of (c .enum-told .given .1))
 
 returns-2 : tie.Need-returns-2
 returns-2 c =
     let b = c .before .before .before in
     let a = b .before .before in
-    choose-answers _ _ (a .before .pre) _ (b .best-position .ensures)
+    choose-answers _ _ (a .before .pre) _ (b .best-position .ensures) (λ i. omega (arith, a .shared-slice-known .given i))
     (choose-number _ _ (a .before .pre) _ (b .best-position .ensures) _ _ _ _ (c .before .column .given .1))
 
 pub choose-task-spec : {M : Type 1} → statement M

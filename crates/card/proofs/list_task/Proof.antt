@@ -37,7 +37,7 @@ returns-2 c =
     let m = c .before .before .before .before .before in
     let l = m .before .before in
     let a = l .before .before .before in
-    list-answers _ _ _ (a .before .pre) (l .if1 .left) _ _ (m .list .ensures)
+    list-answers _ _ _ (a .before .pre) (l .if1 .left) _ _ (m .list .ensures) (λ i. omega (arith, a .shared-slice-known .given i))
     (list-number _ _ _ (a .before .pre) (l .if1 .left) _ _ (m .list .ensures) _ (c .before .count .given .1))
 
 same-length-2 : tie.Need-same-length-2
@@ -48,7 +48,8 @@ returns-3 c =
     let m = c .before .before .before .before in
     let l = m .before .before in
     let a = l .before .before .before in
-    list-answers _ _ _ (a .before .pre) (l .if1 .left) _ _ (m .list .ensures) (ap answer-of (c .enum-told .given .1))
+    list-answers _ _ _ (a .before .pre) (l .if1 .left) _ _ (m .list .ensures) (λ i. omega (arith, a .shared-slice-known .given i))
+    (ap answer-of (c .enum-told .given .1))
 
 pub list-task-spec : {M : Type 1} → statement M
 list-task-spec =

@@ -17,17 +17,19 @@ use Rattle.record.specs.Entries.{Finds}
 use Rattle.record.specs.Laws.Entries.{found-true}
 use Rattle.record.specs.declared.entries.Found.{Found}
 use Rattle.record.specs.declared.entries.Found.the-variants.{At, Nowhere}
-use Rattle.card.specs.Leaves.{Changes, Writes}
+use Rattle.card.specs.Leaves.{Leaves}
 
 -- the outcome has this answer, this output and this record
 pub answers : {o : Outcome (List ℕ)} {a : ℤ} {l r : List ℕ} → o ≡ record { answer = a; output = l; state = r } → a ≡ o .answer
 answers e = sym (ap (λ (o : Outcome (List ℕ)). o .answer) e)
 
-pub changes : {o : Outcome (List ℕ)} {a : ℤ} {l r : List ℕ} → o ≡ record { answer = a; output = l; state = r } → Changes o a r
-changes e = record { answer-is = answers e; record-is = sym (ap (λ (o : Outcome (List ℕ)). o .state) e) }
-
-pub writes : {o : Outcome (List ℕ)} {a : ℤ} {l r : List ℕ} → o ≡ record { answer = a; output = l; state = r } → Writes o a l
-writes e = record { answer-is = answers e; output-is = sym (ap (λ (o : Outcome (List ℕ)). o .output) e) }
+pub leaves : {o : Outcome (List ℕ)} {a : ℤ} {l r : List ℕ} → o ≡ record { answer = a; output = l; state = r } → Leaves o a r l
+leaves e =
+    record {
+      answer-is = answers e;
+      record-is = sym (ap (λ (o : Outcome (List ℕ)). o .state) e);
+      output-is = sym (ap (λ (o : Outcome (List ℕ)). o .output) e);
+    }
 
 -- ---- tests
 

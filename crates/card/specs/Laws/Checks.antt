@@ -19,14 +19,13 @@ use Rattle.listing.specs.Columns.{Given}
 use Rattle.card.specs.declared.Check.{Check}
 use Rattle.card.specs.declared.Check.the-variants.{Pass, Refuse}
 use Rattle.card.specs.Leaves.{Uncounted, ChecksRecord, HasTask, ChecksTask, ChecksRelease, ChecksColumn}
-use Rattle.card.specs.Laws.Answers.{answers}
 
 -- ---- of the record
 
 -- a refusal of the interval count leaves no view
 pub uncounted : (r : List ℕ) (k m : ℕ) → interval-count r k ≡ plain-refusal (suc m) r → Uncounted r k (negsuc m)
 unfolding view view-of
-uncounted r k m e = (answers e, rw e)
+uncounted r k m e = (e, rw e)
 
 pub check-length : (r : List ℕ) → length r ≢ record-size → ChecksRecord r (Refuse (negsuc 0))
 check-length r h = (λ c. wrong-length-call r c h, λ k. uncounted r k 0 (count-wrong-length r k h))

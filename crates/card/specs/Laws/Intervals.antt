@@ -2,7 +2,7 @@
 use Prim.Native.Nat.{ℕ, _+_, _-_, _*_, _≤_, _<_}
 use mathlib.Core.Path.{_≡_, sym, ap, _∙_}
 use mathlib.Core.Bool.{true}
-use mathlib.Core.List.{List}
+use mathlib.Core.List.{List, []}
 use native.Mathlib.Omega.{arith}
 use lib.IntN.{ℤ, pos, negsuc}
 use lib.ListN.{getD, take, drop}
@@ -23,8 +23,8 @@ use Rattle.model.specs.Laws.OnRecord.{count-no-column, count-done}
 use Rattle.record.specs.Fits.{Listed}
 use Rattle.card.specs.declared.Check.{Check}
 use Rattle.card.specs.declared.Check.the-variants.{Pass, Refuse}
-use Rattle.card.specs.Leaves.{Uncounted, ChecksColumn}
-use Rattle.card.specs.Laws.Answers.{answers}
+use Rattle.card.specs.Leaves.{Leaves, Uncounted, ChecksColumn}
+use Rattle.card.specs.Laws.Answers.{answers, leaves}
 use Rattle.card.specs.Laws.Checks.{uncounted}
 
 module _ (r : List ℕ) (k : ℕ) where
@@ -53,8 +53,11 @@ module _ (r : List ℕ) (k : ℕ) where
             let q = counted .column in
             sym (answers (count-done r k s l)) ∙ ap pos (sym (record-count (device-of r) (book-of r) k q)) ∙ ap (λ (v : List ℕ). pos (count-of v k)) (sym (sound-record r B s))
 
-        pub count-done-at : toZ w32 (count-of r k) ≡ interval-count r k .answer
-        count-done-at = toZ-pos w32 {n = count-of r k} (omega (arith, B (counts-at + k))) ∙ sym count-said
+        pub count-done-at : Leaves (interval-count r k) (toZ w32 (count-of r k)) r []
+        count-done-at =
+            let (s, l) = rw e at h in
+            let d = leaves (count-done r k s l) in
+            record { answer-is = toZ-pos w32 {n = count-of r k} (omega (arith, B (counts-at + k))) ∙ sym count-said; record-is = d .record-is; output-is = d .output-is }
 
         pub view-part : take (column-at k + interval-size * count-of r k - column-at k) (drop (column-at k) r) ≡ view r k
         unfolding view view-of part

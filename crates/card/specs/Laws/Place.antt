@@ -18,7 +18,7 @@ use Rattle.model.specs.Tasks.{sized, well-formed}
 use Rattle.model.specs.Book.{Book, fits, fits-at}
 use Rattle.model.specs.Record.{record-of, device-of, book-of}
 use Rattle.model.specs.Sound.{sound, number-ok}
-use Rattle.model.specs.Calls.{place, refused, refusals, insert, natural, runs-in, done}
+use Rattle.model.specs.Calls.{place, lent, refused, refusals, insert, natural, runs-in, done}
 use Rattle.model.specs.OnRecord.{written, on-record}
 use Rattle.model.specs.Laws.Bounded.{clash}
 use Rattle.model.specs.Laws.WriteBack.{Bytes}
@@ -27,7 +27,8 @@ use Rattle.listing.specs.Columns.{Given}
 use Rattle.record.specs.Enter.{Placeable}
 use Rattle.card.specs.declared.Check.{Check}
 use Rattle.card.specs.declared.Check.the-variants.{Pass, Refuse}
-use Rattle.card.specs.Leaves.{Refused, ChecksTask, Placing, ChecksPlace}
+use Rattle.card.specs.Leaves.{Changes, Refused, ChecksTask, Placing, ChecksPlace}
+use Rattle.card.specs.Laws.Answers.{leaves}
 
 -- ---- the bottom
 
@@ -91,8 +92,9 @@ module _ (r t : List ℕ) (n p : ℕ) (y : ℤ) (B : Bytes r) (x : Given r t) wh
 pub check-placing : (r t : List ℕ) (n p : ℕ) {y : ℤ} (x : Check) → SFits w32 y → ChecksPlace r t n p (toZ w32 (ofZ w32 y)) x → x ≡ Pass → Placing r t n p y
 check-placing r t n p x f h e = rw (e, toZ-ofZ f) at h
 
-pub place-refused : (r t : List ℕ) (n p : ℕ) {y z : ℤ} (x : Check) → SFits w32 y → ChecksPlace r t n p (toZ w32 (ofZ w32 y)) x → x ≡ Refuse z → Refused r z (place t n p y)
-place-refused r t n p x f h e = rw (e, toZ-ofZ f) at h
+pub place-refused : (r t : List ℕ) (n p : ℕ) {y z : ℤ} (x : Check) → SFits w32 y → ChecksPlace r t n p (toZ w32 (ofZ w32 y)) x → x ≡ Refuse z → Changes (on-record r (place t n p y)) z r
+unfolding lent
+place-refused r t n p x f h e = leaves (rw (e, toZ-ofZ f) at h)
 
 -- what entering the task asks, at bottom k
 pub placeable : (r t : List ℕ) (n p : ℕ) (y : ℤ) (k : ℕ) → Placing r t n p y → y ≡ pos k

@@ -18,12 +18,12 @@ use Rattle.model.specs.Tasks.{blocks, well-formed, step}
 use Rattle.model.specs.Book.{Book, placed, fits, intervals}
 use Rattle.model.specs.Choice.{Judge, judge, Found, at, better, see, climb}
 use Rattle.model.specs.Record.{device-of, book-of}
+use Rattle.model.specs.Homes.{Room}
 use Rattle.model.specs.Laws.Bounded.{clash, is-false}
 use Rattle.model.specs.Laws.Fits.{fits-below}
 use Rattle.model.specs.Laws.Steps.{step-bounds, fits-steps}
 use Rattle.model.specs.Laws.Limits.{limits-to}
 use Rattle.model.specs.Laws.Sound.{sound-within}
-use Rattle.model.specs.Laws.Raised.{Room}
 use Rattle.model.specs.Laws.Climb.{climb-none}
 use Rattle.model.specs.Laws.Ends.{raised-steps, choose-step}
 use Rattle.listing.specs.Columns.{Given}

@@ -11,7 +11,8 @@ use Rattle.runs.specs.Intervals.{Interval, interval, Apart, Holds}
 use Rattle.runs.specs.Laws.Tests.{tests, cond-ind}
 use Rattle.runs.specs.Laws.Intervals.{named-ge, holds-of}
 use Rattle.model.specs.Choice.{holder}
-use Rattle.model.specs.Laws.Bounded.{In as Among, and-to, and-of, clash, is-false}
+use Rattle.model.specs.Bounded.{In as Among}
+use Rattle.model.specs.Laws.Bounded.{and-to, and-of, clash, is-false}
 use Rattle.column.specs.declared.Interval.{Interval as Read}
 use Rattle.column.specs.declared.Held.the-variants.{In, Nowhere}
 use Rattle.column.specs.Part.{listed-from, listed-in, ReadAt, holding}

@@ -10,7 +10,8 @@ use Rattle.runs.specs.Intervals.{Interval, interval, Apart, piece, subtract, un
 use Rattle.runs.specs.Laws.Streaming.{piece-some, piece-none, piece-append, unite-before}
 use Rattle.model.specs.Limits.{max-intervals, column-size, interval-size, words}
 use Rattle.model.specs.Record.{bytes16, interval-bytes, column-part}
-use Rattle.model.specs.Laws.Parts.{splice, splice-more}
+use Rattle.model.specs.Parts.{splice}
+use Rattle.model.specs.Laws.Parts.{splice-more}
 use Rattle.model.specs.Laws.Record.{length-column}
 use Rattle.model.specs.Laws.Slots.{slots-nil}
 use Rattle.model.specs.Laws.ColumnPart.{column-push}

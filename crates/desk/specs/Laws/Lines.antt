@@ -18,7 +18,8 @@ use Rattle.model.specs.Calls.{Call, list, choose, Outcome, refused, refusals, u
 use Rattle.model.specs.OnRecord.{written, on-record}
 use Rattle.model.specs.Sheet.{empty-draft, list-draft, choose-draft, sheet-line}
 use Rattle.model.specs.Program.{Desk, Left, says, block-bytes, answered, listed, on-call, on-line}
-use Rattle.model.specs.Laws.Parts.{splice, length-splice}
+use Rattle.model.specs.Parts.{splice}
+use Rattle.model.specs.Laws.Parts.{length-splice}
 use Rattle.model.specs.Laws.Kept.{kept}
 use Rattle.line.specs.Block.{call-bytes}
 use Rattle.line.specs.Calls.{call-said, answer-of, Says}

@@ -6,10 +6,11 @@ use native.Mathlib.Omega.{arith}
 use lib.IntN.{ℤ}
 use lib.ListN.{length, drop, length-append}
 use lib.Seq.{take-at}
-use Rattle.model.specs.Laws.Parts.{splice, splice-none}
+use Rattle.model.specs.Laws.Parts.{splice-none}
 use Rattle.model.specs.Bounded.{join-in}
 use Rattle.model.specs.Program.{shows}
 use Rattle.model.specs.Calls.{ranges-in}
+use Rattle.model.specs.Parts.{splice}
 use Rattle.line.specs.Print.{Printed}
 use Rattle.desk.specs.Desk.{Shows}
 

@@ -16,7 +16,8 @@ use Rattle.model.specs.Tasks.{word, lifted, block}
 use Rattle.model.specs.Kinds.{number-of}
 use Rattle.model.specs.Record.{bytes16}
 use Rattle.model.specs.Program.{block-bytes}
-use Rattle.model.specs.Laws.Parts.{splice, part-splice, getD-part, set-two, splice-more}
+use Rattle.model.specs.Parts.{splice}
+use Rattle.model.specs.Laws.Parts.{part-splice, getD-part, set-two, splice-more}
 use Rattle.line.specs.Block.{call-bytes}
 use Rattle.line.specs.declared.call.BlockCall.{BlockCall}
 

@@ -9,12 +9,13 @@ use native.Mathlib.Numerals.{add-one}
 use lib.ListN.{length, set, take, drop, getD, drop-of-length-le, length-drop}
 use lib.Seq.{drop-cons, take-all, take-suc, take-length, length-take-le}
 use native.Mathlib.Nat.{zero-add}
-use Rattle.model.specs.Laws.Parts.{splice, splice-none, splice-grow}
+use Rattle.model.specs.Laws.Parts.{splice-none, splice-grow}
 use lib.Dec.{leb, eqb}
 use borrow.Author.Tests.{eq-eqb, ne-eqb, le-leb, lt-leb}
 use Rattle.model.specs.Limits.{max-line, max-rows-field}
 use Rattle.model.specs.Columns.{Device}
 use Rattle.model.specs.Sheet.{with-some, fields, natural-field, kind-letter, kind-letters, kinds-field, device-line}
+use Rattle.model.specs.Parts.{splice}
 use Rattle.line.specs.Fields.{word, natural-at}
 use Rattle.line.specs.Device.{known, or-zero, kind-or-zero, kinds-of, Reads}
 use Rattle.line.specs.Laws.Fields.{cond-same, and-right, start, field-is, fields-more, fields-less, field-part, after-is, until-none}

@@ -13,7 +13,8 @@ use lib.Signed.{mag, ltZ}
 use borrow.Author.Tests.{lt-ltb, le-ltb}
 use Rattle.runs.specs.Laws.Tests.{lt-or-ge}
 use Rattle.model.specs.Sheet.{text, digits, shown, output-line}
-use Rattle.model.specs.Laws.Parts.{splice, set-splice, splice-more}
+use Rattle.model.specs.Parts.{splice}
+use Rattle.model.specs.Laws.Parts.{set-splice, splice-more}
 use Rattle.line.specs.Print.{Printed}
 
 -- ---- digits

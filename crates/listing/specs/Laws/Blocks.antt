@@ -11,20 +11,20 @@ use Rattle.runs.specs.Runs.{Run, run, In, Mem, From, Lists, runs}
 use Rattle.runs.specs.Laws.Runs.{lists-runs}
 use Rattle.runs.specs.Intervals.{Apart, Multiple, OnGrid}
 use Rattle.runs.specs.Laws.Intervals.{intervals-free}
-use Rattle.runs.specs.Meet.{Lcm}
+use Rattle.runs.specs.Meet.{Lcm, Spaced, Meeting}
 use Rattle.runs.specs.Laws.Steps.{multiple-mod, multiple-times, multiple-le, multiple-sub, multiple-steps}
 use Rattle.runs.specs.Laws.Canon.{from-weaken, from-least}
-use Rattle.runs.specs.Laws.Both.{Spaced, Meeting}
 use Rattle.model.specs.Limits.{reach, max-rows}
 use Rattle.model.specs.Columns.{Device, half-rows, height, columns, kind}
 use Rattle.model.specs.Tasks.{blocks, block, step, well-formed}
 use Rattle.model.specs.Book.{Book, free, block-fits, fits, intervals}
 use Rattle.model.specs.Sound.{within}
+use Rattle.model.specs.Blocks.{Common}
 use Rattle.model.specs.Laws.Bounded.{all-to, all-of}
 use Rattle.model.specs.Laws.Columns.{height-pos}
 use Rattle.model.specs.Laws.Tasks.{solid-block, first-block}
 use Rattle.model.specs.Laws.Fits.{fitting-to, fits-to, fits-below}
-use Rattle.model.specs.Laws.Steps.{Common, common-step, common-bounds, step-bounds, block-apart, fits-steps}
+use Rattle.model.specs.Laws.Steps.{common-step, common-bounds, step-bounds, block-apart, fits-steps}
 use Rattle.model.specs.Laws.Limits.{limits-to}
 use Rattle.model.specs.Laws.Cells.{intervals-grid}
 use Rattle.listing.specs.Bottoms.{lift, lowered, bottoms, Stand, Standing}

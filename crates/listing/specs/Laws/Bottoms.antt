@@ -11,15 +11,15 @@ use borrow.Author.Tests.{lt-ltb, le-ltb}
 use Rattle.runs.specs.Laws.Tests.{tests, cond-ind}
 use Rattle.runs.specs.Runs.{In, Mem, From}
 use Rattle.runs.specs.Intervals.{Interval, Apart, Holds, Multiple, OnGrid}
+use Rattle.runs.specs.Meet.{Spaced}
 use Rattle.runs.specs.Laws.Steps.{multiple-mod, mod-multiple, multiple-gap, multiple-sub, multiple-steps}
 use Rattle.runs.specs.Laws.Canon.{from-weaken}
-use Rattle.runs.specs.Laws.Both.{Spaced}
 use Rattle.model.specs.Limits.{reach}
 use Rattle.model.specs.Columns.{Device, height, columns, kind, top}
 use Rattle.model.specs.Tasks.{Block}
 use Rattle.model.specs.Book.{Book, block-fits, intervals}
+use Rattle.model.specs.Blocks.{Solid}
 use Rattle.model.specs.Laws.Fits.{fitting-to, fitting-of}
-use Rattle.model.specs.Laws.Tasks.{Solid}
 use Rattle.model.specs.Laws.Ends.{fits-held, held-fits}
 use Rattle.listing.specs.Bottoms.{lift, bottoms-in, bottoms}
 

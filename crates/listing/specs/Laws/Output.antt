@@ -19,8 +19,9 @@ use Rattle.model.specs.Book.{fits}
 use Rattle.model.specs.Listing.{Range, range-of, ranges}
 use Rattle.model.specs.Record.{bytes16, device-of, book-of}
 use Rattle.model.specs.Calls.{list, lent, range-bytes, over, no-position, refused, refusals, unless, on-book}
+use Rattle.model.specs.Parts.{splice}
 use Rattle.model.specs.Laws.Bounded.{true-or-false, is-false, map-append}
-use Rattle.model.specs.Laws.Parts.{splice, splice-none, splice-more, length-splice, set-two}
+use Rattle.model.specs.Laws.Parts.{splice-none, splice-more, length-splice, set-two}
 use Rattle.model.specs.Laws.Listing.{join-append}
 use Rattle.model.specs.Laws.Limits.{limits-to}
 use Rattle.model.specs.Laws.Step.{list-done}

@@ -11,14 +11,15 @@ use borrow.Author.Tests.{le-leb, lt-leb, not-true}
 use Rattle.runs.specs.Intervals.{Interval, Named, Apart}
 use Rattle.runs.specs.Laws.Tests.{tests}
 use Rattle.runs.specs.Laws.Intervals.{apart-weaken, apart-unique, intervals-free}
-use Rattle.model.specs.Bounded.{any-below, sum-below, any-in, sum-in, join-in}
+use Rattle.model.specs.Bounded.{any-below, sum-below, any-in, sum-in, join-in, In}
 use Rattle.model.specs.Columns.{Device, columns}
 use Rattle.model.specs.Book.{Running, Book, Placed, covered, standing, intervals}
 use Rattle.model.specs.Choice.{lies, left-in, remaining, pieces, judge}
 use Rattle.model.specs.Calls.{insert}
-use Rattle.model.specs.Laws.Bounded.{In, and-to, sum-ext, list-ext}
+use Rattle.model.specs.Homes.{bit}
+use Rattle.model.specs.Laws.Bounded.{and-to, sum-ext, list-ext}
 use Rattle.model.specs.Laws.Gaps.{Inside}
-use Rattle.model.specs.Laws.Homes.{bit, in-bounds}
+use Rattle.model.specs.Laws.Homes.{in-bounds}
 use Rattle.model.specs.Laws.Ends.{column-free}
 use Rattle.model.specs.Laws.Freed.{free-insert}
 

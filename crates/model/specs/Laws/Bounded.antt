@@ -6,8 +6,7 @@ use mathlib.Core.Bool.{Bool, true, false, _&&_, _||_, true≢false, false≢true
 use mathlib.Core.List.{List, [], _∷_, _++_, map}
 use native.Mathlib.Omega.{arith}
 use Rattle.runs.specs.Laws.Tests.{lt-or-ge}
-use Rattle.model.specs.Bounded.{all-below, any-below, sum-below, all-in, any-in, sum-in}
-pub use Rattle.model.specs.Bounded.{In}
+use Rattle.model.specs.Bounded.{all-below, any-below, sum-below, In, all-in, any-in, sum-in}
 
 -- ---- tests
 

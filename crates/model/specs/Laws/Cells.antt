@@ -15,12 +15,12 @@ use Rattle.runs.specs.Laws.Runs.{in-step-one, runs-count}
 use Rattle.runs.specs.Intervals.{Interval, interval, Named, Apart, Multiple, OnGrid, intervals as maximal-runs}
 use Rattle.runs.specs.Laws.Intervals.{apart-weaken, intervals-free, free-intervals}
 use Rattle.model.specs.Limits.{reach, max-intervals}
-use Rattle.model.specs.Bounded.{any-in}
+use Rattle.model.specs.Bounded.{any-in, In}
 use Rattle.model.specs.Columns.{Device, columns, half-rows, height, kind, cells-in, top-in, cells, top}
 use Rattle.model.specs.Tasks.{blocks, block, well-formed}
 use Rattle.model.specs.Book.{Running, Book, placed, covers, covered, standing, held, free, fits, intervals, holds-cell, cell-free}
 use Rattle.model.specs.Sound.{within}
-use Rattle.model.specs.Laws.Bounded.{and3-to, any-to, any-of-one, same-test, In}
+use Rattle.model.specs.Laws.Bounded.{and3-to, any-to, any-of-one, same-test}
 use Rattle.model.specs.Laws.Columns.{height-two, height-pos}
 use Rattle.model.specs.Laws.Tasks.{solid-block}
 use Rattle.model.specs.Laws.Fits.{fits-to}

@@ -12,7 +12,8 @@ use Rattle.model.specs.Columns.{Device}
 use Rattle.model.specs.Tasks.{word}
 use Rattle.model.specs.Book.{Book, intervals}
 use Rattle.model.specs.Record.{bytes16, interval-bytes, slot, slots, column-part, record-of, part, column-at}
-use Rattle.model.specs.Laws.Parts.{splice, part-part, getD-part, join-cong}
+use Rattle.model.specs.Parts.{splice}
+use Rattle.model.specs.Laws.Parts.{part-part, getD-part, join-cong}
 use Rattle.model.specs.Laws.Tables.{part-join-front}
 use Rattle.model.specs.Laws.Slots.{length-slot, part-slots, slot-map, padded-full, slots-push}
 use Rattle.model.specs.Laws.Record.{word-is, record-column}

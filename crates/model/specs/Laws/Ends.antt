@@ -17,12 +17,13 @@ use Rattle.model.specs.Columns.{Device, half-rows, height, columns, kind
 use Rattle.model.specs.Tasks.{Block, blocks, block, well-formed, step}
 use Rattle.model.specs.Book.{Book, placed, free, fits, intervals}
 use Rattle.model.specs.Choice.{stretch, judge, Found, nothing, at, see, climb, chosen}
+use Rattle.model.specs.Homes.{Room}
 use Rattle.model.specs.Laws.Tasks.{Before, full-block, in-order}
 use Rattle.model.specs.Laws.Fits.{Fitting, fits-to, fits-of}
 use Rattle.model.specs.Laws.Steps.{common-step, step-bounds, fits-steps}
 use Rattle.model.specs.Laws.Homes.{Under, Stands, adds, at-home}
 use Rattle.model.specs.Laws.Pieces.{pieces-adds}
-use Rattle.model.specs.Laws.Raised.{Raised, Room, raised-stands, stretch-same, pieces-more}
+use Rattle.model.specs.Laws.Raised.{Raised, raised-stands, stretch-same, pieces-more}
 use Rattle.model.specs.Laws.Climb.{climb-jump}
 use Rattle.model.specs.Laws.Choice.{Chosen, choice-at, choice-nothing}
 

@@ -12,15 +12,12 @@ use Rattle.model.specs.Columns.{Device}
 use Rattle.model.specs.Book.{Running, Book}
 use Rattle.model.specs.Record.{bytes16, padded, entry-bytes, head-bytes, entry-part}
 use Rattle.model.specs.Calls.{insert, without, runs-in}
+use Rattle.model.specs.Parts.{raised, lowered}
+use Rattle.model.specs.InPlace.{Reads, place}
 use Rattle.model.specs.Laws.Changed.{changed}
 use Rattle.model.specs.Laws.Bounded.{map-append}
-use Rattle.model.specs.Laws.Slots.{raised, lowered, slot-insert, slot-remove}
-use Rattle.model.specs.Laws.Layout.{Reads, reads-head, reads-cong}
-
--- where insert puts an entry
-unfoldable pub place : ℕ → Book → ℕ
-place n [] = 0
-place n (f ∷ b) = cond (ltb n (f .number)) 0 (suc (place n b))
+use Rattle.model.specs.Laws.Slots.{slot-insert, slot-remove}
+use Rattle.model.specs.Laws.Layout.{reads-head, reads-cong}
 
 -- an entry put in stands between those below its place and the others
 pub insert-split : (e : Running) (b : Book) → insert e b ≡ take (place (e .number) b) b ++ e ∷ drop (place (e .number) b) b

@@ -10,7 +10,8 @@ use Rattle.model.specs.Columns.{Device, columns, height, kind, top}
 use Rattle.model.specs.Book.{Running, Book, covered, standing, held, free, holds-cell}
 use Rattle.model.specs.Sound.{within}
 use Rattle.model.specs.Calls.{insert, without}
-use Rattle.model.specs.Laws.Bounded.{In, any-in-to, is-false, true-or-false}
+use Rattle.model.specs.Bounded.{In}
+use Rattle.model.specs.Laws.Bounded.{any-in-to, is-false, true-or-false}
 use Rattle.model.specs.Laws.Columns.{height-pos}
 use Rattle.model.specs.Laws.Limits.{limits-to}
 use Rattle.model.specs.Laws.Cells.{covered-holds}

@@ -11,7 +11,7 @@ use borrow.Author.Tests.{lt-ltb}
 use Rattle.runs.specs.Laws.Tests.{lt-or-ge}
 use Rattle.runs.specs.Intervals.{Interval, interval, Named, Apart, intervals, Free, piece}
 use Rattle.runs.specs.Laws.Intervals.{named-ge, apart-weaken, piece-apart, piece-to, piece-of, free-intervals}
-use Rattle.model.specs.Laws.Homes.{bit}
+use Rattle.model.specs.Homes.{bit}
 
 -- each interval of L ends at hi or below
 abbrev pub Inside : ℕ → List Interval → Type 0

@@ -13,7 +13,7 @@ use lib.IntN.{ℤ, pos, negℤ}
 use lib.ListN.{length}
 use borrow.Author.Tests.{not-false}
 use Rattle.model.specs.Limits.{max-running, record-size, list-room}
-use Rattle.model.specs.Bounded.{all-in}
+use Rattle.model.specs.Bounded.{all-in, In}
 use Rattle.model.specs.Columns.{Device, device-ok}
 use Rattle.model.specs.Tasks.{sized, well-formed}
 use Rattle.model.specs.Book.{Running, Book}
@@ -23,7 +23,7 @@ use Rattle.model.specs.Calls.{Call, list, choose, Outcome, refused, no-p
 use Rattle.model.specs.OnRecord.{written, on-record, new}
 use Rattle.model.specs.History.{Trace, trace, on-records, book-of-history}
 use Rattle.model.specs.Demand3.{AllOnCells, device, Listed, History}
-use Rattle.model.specs.Laws.Bounded.{In, and-to, and5-to, is-false}
+use Rattle.model.specs.Laws.Bounded.{and-to, and5-to, is-false}
 use Rattle.model.specs.Laws.Listing.{listing-names}
 use Rattle.model.specs.Laws.OnCells.{fitting-cells, nowhere-cells}
 use Rattle.model.specs.Laws.InOrder.{fitting-in-order}

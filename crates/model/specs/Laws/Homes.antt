@@ -9,15 +9,11 @@ use lib.Dec.{leb, ltb, eqb}
 use borrow.Author.Tests.{le-leb, lt-leb, lt-ltb, le-ltb}
 use Rattle.runs.specs.Intervals.{Interval, Named, Apart, Holds}
 use Rattle.runs.specs.Laws.Intervals.{named-ge, holds-of}
-use Rattle.model.specs.Bounded.{sum-in}
+use Rattle.model.specs.Bounded.{sum-in, In}
 use Rattle.model.specs.Book.{Placed}
 use Rattle.model.specs.Choice.{holder, home}
-use Rattle.model.specs.Laws.Bounded.{In, list-zero}
-
--- 1 where the test passes
-abbrev pub bit : Bool → ℕ
-bit true = 1
-bit false = 0
+use Rattle.model.specs.Homes.{bit}
+use Rattle.model.specs.Laws.Bounded.{list-zero}
 
 -- block j stands in an earlier column than block k, or below it in the same column without touching
 abbrev pub Under : Placed → ℕ → ℕ → Type 0

@@ -18,7 +18,8 @@ use Rattle.model.specs.Tasks.{sized, well-formed}
 use Rattle.model.specs.Book.{Running, Book, covered, standing, held, fits, fits-at, holds-cell}
 use Rattle.model.specs.Sound.{number-ok, within}
 use Rattle.model.specs.Calls.{Call, list, choose, place, release, lent, refused, refusals, runs-in, insert, without, natural, running, done, unless, on-book}
-use Rattle.model.specs.Laws.Bounded.{and-to, any-to, In, any-in-of, clash}
+use Rattle.model.specs.Bounded.{In}
+use Rattle.model.specs.Laws.Bounded.{and-to, any-to, any-in-of, clash}
 use Rattle.model.specs.Laws.Entries.{length-insert}
 use Rattle.model.specs.Laws.Limits.{Rising, Parted, Entry, limits-to, within-device, within-of}
 use Rattle.model.specs.Laws.Cells.{covered-holds}

@@ -1,28 +1,22 @@
--- The layout of a record: what it is for bytes to be laid out from given parts, and a part or a byte replaced in place. Assumes nothing.
+-- The layout of a record: bytes that are laid out from given parts, and a part or a byte replaced in place. Assumes nothing.
 use Prim.Native.Nat.{ℕ, _+_, _*_, _≤_, _<_}
 use mathlib.Core.Path.{_≡_, sym, ap, _∙_}
 use mathlib.Core.List.{List}
 use native.Mathlib.Omega.{arith}
 use native.Mathlib.Nat.{zero-add}
-use lib.ListN.{length, getD, set, length-set}
+use lib.ListN.{length, set, length-set}
 use lib.Seq.{getD-set-other}
-use Rattle.model.specs.Limits.{max-columns, max-running, record-size, head-size, kinds-at, counts-at, intervals-at, column-size, entries-at, entry-size}
+use Rattle.model.specs.Limits.{max-columns, max-running, head-size, kinds-at, counts-at, intervals-at, column-size, entries-at, entry-size}
 use Rattle.model.specs.Bounded.{join-below, list-below}
 use Rattle.model.specs.Columns.{columns}
 use Rattle.model.specs.Record.{layout, part, column-at, entry-at}
+use Rattle.model.specs.Parts.{splice}
+use Rattle.model.specs.InPlace.{Reads}
 use Rattle.model.specs.Laws.Changed.{changed}
-use Rattle.model.specs.Laws.Parts.{splice, join-cong, length-join, length-list, join-parts, list-is, length-splice, part-splice-below, part-splice-above, getD-splice-below, part-set-below, part-set-above, part-set}
+use Rattle.model.specs.Laws.Parts.{join-cong, length-join, length-list, join-parts, list-is, length-splice, part-splice-below, part-splice-above, getD-splice-below, part-set-below, part-set-above, part-set}
 use Rattle.model.specs.Laws.Tables.{byte-of, piece-of, cut, uncut, piece-splice, byte-set}
 
--- ---- what it is for r to be laid out from these parts
-
-pub record Reads (r : List ℕ) (head : List ℕ) (kinds counts : ℕ → ℕ) (columns entries : ℕ → List ℕ) : Type 0 where
-  pub size : length r ≡ record-size
-  pub head-is : part r 0 head-size ≡ head
-  pub kind-is : (c : ℕ) → c < max-columns → getD r (kinds-at + c) 0 ≡ kinds c
-  pub count-is : (c : ℕ) → c < max-columns → getD r (counts-at + c) 0 ≡ counts c
-  pub column-is : (c : ℕ) → c < max-columns → part r (column-at c) column-size ≡ columns c
-  pub entry-is : (j : ℕ) → j < max-running → part r (entry-at j) entry-size ≡ entries j
+-- ---- laid out from given parts, and read so
 
 module _ (head : List ℕ) (kinds counts : ℕ → ℕ) (columns entries : ℕ → List ℕ) (l-head : length head ≡ head-size)
     (l-column : (c : ℕ) → c < max-columns → length (columns c) ≡ column-size) (l-entry : (j : ℕ) → j < max-running → length (entries j) ≡ entry-size) where

@@ -10,12 +10,12 @@ use lib.ListN.{length, getD}
 use borrow.Author.Tests.{le-leb, lt-ltb, leb-true, not-true}
 use Rattle.runs.specs.Laws.Tests.{tests}
 use Rattle.model.specs.Limits.{max-rows, max-columns, max-kind, max-running, max-number}
-use Rattle.model.specs.Bounded.{any-below, all-in}
+use Rattle.model.specs.Bounded.{any-below, all-in, In}
 use Rattle.model.specs.Columns.{Device, columns, kind, cells, device-ok}
 use Rattle.model.specs.Tasks.{sized, well-formed}
 use Rattle.model.specs.Book.{Running, Book, fits, holds-cell}
 use Rattle.model.specs.Sound.{number-ok, rising, task-ok, share, apart, book-ok, within}
-use Rattle.model.specs.Laws.Bounded.{and-to, and-of, and3-to, and5-to, is-false, clash, any-to, any-of-one, In, all-in-to, all-in-of}
+use Rattle.model.specs.Laws.Bounded.{and-to, and-of, and3-to, and5-to, is-false, clash, any-to, any-of-one, all-in-to, all-in-of}
 
 -- ---- rising numbers
 

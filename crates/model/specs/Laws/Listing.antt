@@ -12,13 +12,13 @@ use Rattle.runs.specs.Laws.Tests.{tests, cond-ind, lt-or-ge}
 use Rattle.runs.specs.Runs.{Run, run, Steps, From, push, runs}
 use Rattle.runs.specs.Laws.Runs.{InStep, runs-lists, runs-count}
 use Rattle.model.specs.Limits.{max-rows, max-intervals, list-room, range-size}
-use Rattle.model.specs.Bounded.{join-below, list-below, those-below, join-in}
+use Rattle.model.specs.Bounded.{join-below, list-below, those-below, join-in, In}
 use Rattle.model.specs.Columns.{Device, columns, half-rows}
 use Rattle.model.specs.Tasks.{step, sized}
 use Rattle.model.specs.Book.{Book, fits}
 use Rattle.model.specs.Listing.{range-of, ranges, Position, position, named, fitting}
 use Rattle.model.specs.Sound.{within}
-use Rattle.model.specs.Laws.Bounded.{In, map-append}
+use Rattle.model.specs.Laws.Bounded.{map-append}
 use Rattle.model.specs.Laws.Parts.{join-cong}
 use Rattle.model.specs.Laws.Tasks.{sized-to}
 use Rattle.model.specs.Laws.Steps.{step-bounds, fits-steps}

@@ -14,7 +14,8 @@ use Rattle.model.specs.Listing.{position, fitting}
 use Rattle.model.specs.Calls.{no-position}
 use Rattle.model.specs.Sound.{within}
 use Rattle.model.specs.Demand3.{OnCells, AllOnCells}
-use Rattle.model.specs.Laws.Bounded.{In, is-false, clash}
+use Rattle.model.specs.Bounded.{In}
+use Rattle.model.specs.Laws.Bounded.{is-false, clash}
 use Rattle.model.specs.Laws.Columns.{height-pos}
 use Rattle.model.specs.Laws.Tasks.{full-block, sized-to}
 use Rattle.model.specs.Laws.Fits.{Fitting, fits-to, fits-of, fits-below}

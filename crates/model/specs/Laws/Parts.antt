@@ -11,12 +11,9 @@ use lib.ListN.{length, getD, set, take, drop, length-append, length-drop, take-a
 use lib.Seq.{length-take-le, take-all, take-nil, take-at, drop-at, drop-cons, take-append-le, drop-append-le, getD-take, getD-drop, take-take, drop-drop, take-add, set-split, drop-set-add, take-set-lt, set-at}
 use Rattle.model.specs.Bounded.{join-below, list-below}
 use Rattle.model.specs.Record.{part}
+use Rattle.model.specs.Parts.{splice}
 
 module _ {ℓ} {A : Type ℓ} where
-  -- r with its n elements from `at` on replaced by v: how a lent part comes back
-  unfoldable pub splice : List A → ℕ → ℕ → List A → List A
-  splice r at n v = take at r ++ (v ++ drop n (drop at r))
-
   -- ---- parts
 
   -- a part that lies in r has its length

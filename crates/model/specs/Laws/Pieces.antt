@@ -11,12 +11,13 @@ use lib.Dec.{leb, ltb, eqb}
 use borrow.Author.Tests.{le-leb, lt-ltb, eq-eqb, ne-eqb, not-true}
 use Rattle.runs.specs.Intervals.{Interval, interval, Named, Apart, Holds}
 use Rattle.runs.specs.Laws.Tests.{tests, cond-ind, lt-or-ge}
-use Rattle.model.specs.Bounded.{any-below, sum-below, sum-in}
+use Rattle.model.specs.Bounded.{any-below, sum-below, sum-in, In}
 use Rattle.model.specs.Book.{Placed, covers, covered}
 use Rattle.model.specs.Choice.{lies, left-in, remaining, pieces, home}
-use Rattle.model.specs.Laws.Bounded.{In, Some, and-to, and3-to, clash, is-false, last-or, any-to, any-of-one, any-none, sum-ext, sum-single, sum-swap, sum-from, sum-front, list-ext, list-swap, list-zero}
+use Rattle.model.specs.Homes.{bit}
+use Rattle.model.specs.Laws.Bounded.{Some, and-to, and3-to, clash, is-false, last-or, any-to, any-of-one, any-none, sum-ext, sum-single, sum-swap, sum-from, sum-front, list-ext, list-swap, list-zero}
 use Rattle.model.specs.Laws.Gaps.{Inside, gaps, tops, gaps-intervals, gaps-length}
-use Rattle.model.specs.Laws.Homes.{bit, Under, Stands, joined, adds, adds-is, holder-at, own, one-counts, at-home}
+use Rattle.model.specs.Laws.Homes.{Under, Stands, joined, adds, adds-is, holder-at, own, one-counts, at-home}
 
 -- ---- the tests as facts about numbers
 

@@ -14,11 +14,12 @@ use Rattle.model.specs.Columns.{Device, columns, kind}
 use Rattle.model.specs.Book.{Running, Book, intervals}
 use Rattle.model.specs.Record.{bytes16, padded, slot, slots, interval-bytes, entry-bytes, head-bytes, layout, column-part, entry-part, image, record-of}
 use Rattle.model.specs.Sound.{within}
+use Rattle.model.specs.InPlace.{no-entry}
 use Rattle.model.specs.Laws.Limits.{limits-to}
 use Rattle.model.specs.Laws.Cells.{few-intervals}
 use Rattle.model.specs.Laws.Parts.{join-cong, length-join, listed}
 use Rattle.model.specs.Laws.Slots.{padded-by, padded-full, length-padded, slot-out, slot-map}
-use Rattle.model.specs.Laws.Record.{no-entry, kind-out, intervals-out}
+use Rattle.model.specs.Laws.Record.{kind-out, intervals-out}
 
 -- the pieces one after the other
 unfoldable pub joined : List (List ℕ) → List ℕ

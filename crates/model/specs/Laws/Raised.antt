@@ -11,8 +11,9 @@ use Rattle.runs.specs.Intervals.{Interval, Holds}
 use Rattle.model.specs.Bounded.{sum-below}
 use Rattle.model.specs.Book.{Placed}
 use Rattle.model.specs.Choice.{pieces, home, stretch}
+use Rattle.model.specs.Homes.{bit, Room}
 use Rattle.model.specs.Laws.Bounded.{sum-ext, sum-mono}
-use Rattle.model.specs.Laws.Homes.{bit, bit-small, Under, Stands, joined, adds, holder-at, Holder, holder-of, at-home}
+use Rattle.model.specs.Laws.Homes.{bit-small, Under, Stands, joined, adds, holder-at, Holder, holder-of, at-home}
 use Rattle.model.specs.Laws.Pieces.{pieces-adds}
 
 -- D are the blocks B, all of them u higher
@@ -21,10 +22,6 @@ pub record Raised (u : ℕ) (B D : Placed) : Type 0 where
   pub column : (k : ℕ) → k < B .count → D .column k ≡ B .column k
   pub bottom : (k : ℕ) → k < B .count → D .bottom k ≡ B .bottom k + u
   pub top : (k : ℕ) → k < B .count → D .top k ≡ B .top k + u
-
--- each block of B has u half rows or more above it in its interval
-abbrev pub Room : ℕ → Placed → (ℕ → List Interval) → Type 0
-Room u B L = (k : ℕ) → k < B .count → B .top k + u ≤ home B L k .top
 
 bit-mono : (j t : Bool) → bit (not j && t) ≤ bit (not j && true)
 bit-mono true t = omega arith

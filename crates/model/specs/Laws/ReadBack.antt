@@ -14,7 +14,8 @@ use Rattle.model.specs.Tasks.{word, blocks}
 use Rattle.model.specs.Book.{Running, Book, intervals}
 use Rattle.model.specs.Record.{bytes16, padded, interval-bytes, entry-bytes, column-part, record-of, column-at, entry-at, device-of, book-of, listed-intervals}
 use Rattle.model.specs.Sound.{within, block-count}
-use Rattle.model.specs.Laws.Bounded.{In}
+use Rattle.model.specs.Bounded.{In}
+use Rattle.model.specs.InPlace.{no-entry}
 use Rattle.model.specs.Laws.Columns.{top-le}
 use Rattle.model.specs.Laws.Tasks.{Sized, sized-to}
 use Rattle.model.specs.Laws.Fits.{fits-below}
@@ -22,7 +23,7 @@ use Rattle.model.specs.Laws.Limits.{Entry, limits-to}
 use Rattle.model.specs.Laws.Cells.{few-intervals, interval-ends}
 use Rattle.model.specs.Laws.Parts.{getD-part, part-byte, join-cong, listed}
 use Rattle.model.specs.Laws.Slots.{getD-padded, slot-out, part-slots}
-use Rattle.model.specs.Laws.Record.{Writable, no-entry, device-back, book-back, record-shows, record-count, record-column, record-entry}
+use Rattle.model.specs.Laws.Record.{Writable, device-back, book-back, record-shows, record-count, record-column, record-entry}
 use Rattle.model.specs.Laws.ColumnPart.{word-part, interval-bottom, interval-top}
 use Rattle.model.specs.Laws.Clauses.{Zero}
 use Rattle.model.specs.Laws.WriteBack.{said}

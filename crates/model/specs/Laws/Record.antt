@@ -7,7 +7,7 @@ use native.Mathlib.Omega.{arith}
 use native.Mathlib.Nat.{zero-add}
 use lib.Dec.{eqb}
 use borrow.Author.Tests.{le-ltb}
-use lib.ListN.{length, getD, set, replicate, length-map, List·getD-eq-default}
+use lib.ListN.{length, getD, replicate, length-map, List·getD-eq-default}
 use Rattle.runs.specs.Intervals.{Interval}
 use Rattle.runs.specs.Laws.Intervals.{free-intervals}
 use Rattle.model.specs.Limits.{max-columns, max-running, max-intervals, max-blocks, block-size, words, record-size, rows-at, columns-at, running-at, head-size, kinds-at, counts-at, column-size, interval-size, entry-size, blocks-at}
@@ -16,11 +16,12 @@ use Rattle.model.specs.Columns.{Device, columns, kind, top}
 use Rattle.model.specs.Tasks.{word, blocks}
 use Rattle.model.specs.Book.{Running, Book, free, intervals}
 use Rattle.model.specs.Record.{bytes16, padded, interval-bytes, entry-bytes, head-bytes, column-part, entry-part, image, record-of, part, column-at, entry-at, device-of, running-of, book-of}
+use Rattle.model.specs.InPlace.{Reads, put-column, no-entry}
 use Rattle.model.specs.Laws.Bounded.{clash}
 use Rattle.model.specs.Laws.Changed.{changed}
-use Rattle.model.specs.Laws.Parts.{splice, getD-part, part-end, join-cong, listed}
+use Rattle.model.specs.Laws.Parts.{getD-part, part-end, join-cong, listed}
 use Rattle.model.specs.Laws.Slots.{getD-padded, part-padded, length-slot, length-slots, slot-map, slot-out, slots-nil}
-use Rattle.model.specs.Laws.Layout.{Reads, reads-layout, layout-reads, reads-column, reads-count, reads-cong}
+use Rattle.model.specs.Laws.Layout.{reads-layout, layout-reads, reads-column, reads-count, reads-cong}
 
 -- the head has 4 bytes
 pub length-head : (d : Device) (b : Book) → length (head-bytes d b) ≡ head-size
@@ -88,10 +89,6 @@ map-changed g f c v i = go (eqb i c)
     go true = refl
     go false = refl
 
--- column c's part and count byte replaced
-unfoldable pub put-column : List ℕ → ℕ → List Interval → List ℕ
-put-column r c js = set (splice r (column-at c) column-size (column-part js)) (counts-at + c) (length js)
-
 -- the intervals of column c replaced
 pub shows-column : (r : List ℕ) (d : Device) (b : Book) (is : ℕ → List Interval) (c : ℕ) (js : List Interval) → Shows r d b is → c < max-columns
     → Shows (put-column r c js) d b (changed is c js)
@@ -127,10 +124,6 @@ entry-back e w =
     rw m (part-padded entry-size (entry-bytes e) blocks-at (length (e .task)) (omega arith) (omega arith)
     ∙ part-end (bytes16 (e .number) ++ (e .column ∷ blocks (e .task) ∷ []) ++ bytes16 (e .bottom)) (e .task) blocks-at (length (e .task)) refl refl) in
     λ i. record { number = number i; column = at 2 (omega arith) i; bottom = bottom i; task = task i }
-
--- for the place of an entry that is not there
-pub no-entry : Running
-no-entry = record { number = 0; column = 0; bottom = 0; task = [] }
 
 module _ (d : Device) (b : Book) {r : List ℕ} {counts : ℕ → ℕ} {columns′ : ℕ → List ℕ} (x : Reads r (head-bytes d b) (kind d) counts columns′ (entry-part b)) where
   -- the device and the book, read back

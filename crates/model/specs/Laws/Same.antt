@@ -9,7 +9,7 @@ use Rattle.model.specs.Columns.{Device}
 use Rattle.model.specs.Book.{Running, Book}
 use Rattle.model.specs.Record.{record-of}
 use Rattle.model.specs.Sound.{within}
-use Rattle.model.specs.Laws.Bounded.{In}
+use Rattle.model.specs.Bounded.{In}
 use Rattle.model.specs.Laws.Limits.{Rising, rising-above, limits-to}
 
 module _ (m n : ℕ) (e f : Running) (a b : Book) (r : Rising m (e ∷ a)) (s : Rising n (f ∷ b)) where

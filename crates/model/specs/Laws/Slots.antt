@@ -2,19 +2,18 @@
 -- Assumes nothing.
 use Prim.Native.Nat.{ℕ, zero, suc, _+_, _-_, _*_, _≤_, _<_}
 use mathlib.Core.Path.{_≡_, refl, sym, ap, _∙_}
-use mathlib.Core.Bool.{cond}
 use mathlib.Core.List.{List, [], _∷_, _++_, map}
 use native.Mathlib.Omega.{arith}
 use native.Mathlib.Nat.{zero-add, add-zero, add-comm, zero-mul}
 use native.Mathlib.Decide.{decLt, ℕ-discrete}
-use lib.Dec.{leb, ltb}
 use borrow.Author.Tests.{lt-ltb, le-ltb, le-leb, lt-leb}
 use lib.ListN.{length, getD, take, drop, replicate, length-append, length-replicate, replicate-append-replicate, List·getD-eq-default, List·getD-append}
 use lib.Seq.{getD-append-seam, length-take-le, take-all, take-at, getD-take, getD-drop, getD-append-add, take-append-add}
 use Rattle.model.specs.Bounded.{join-below}
 use Rattle.model.specs.Record.{part, padded, slot, slots}
+use Rattle.model.specs.Parts.{splice, raised, lowered}
 use Rattle.model.specs.Laws.Changed.{changed, changed-same, changed-other}
-use Rattle.model.specs.Laws.Parts.{splice, join-cong, part-part, part-left, part-join, length-join}
+use Rattle.model.specs.Laws.Parts.{join-cong, part-part, part-left, part-join, length-join}
 use Rattle.model.specs.Laws.Tables.{splice-join, table-is}
 
 -- ---- padded
@@ -109,14 +108,6 @@ slots-nil (suc n) k =
 -- ---- a piece put in, and taken out
 
 module _ {ℓ} {A : Type ℓ} where
-  -- f, but what stands at i .. n - 1 stands one place higher
-  unfoldable pub raised : ℕ → ℕ → (ℕ → A) → ℕ → A
-  raised i n f j = cond (ltb i j) (cond (leb j n) (f (j - 1)) (f j)) (f j)
-
-  -- f, but what stands at i + 1 .. n stands one place lower
-  unfoldable pub lowered : ℕ → ℕ → (ℕ → A) → ℕ → A
-  lowered i n f j = cond (ltb j i) (f j) (cond (ltb j n) (f (j + 1)) (f j))
-
   module _ (i n : ℕ) (f : ℕ → A) (j : ℕ) where
     -- below i, between, and above n
     pub raised-low : j ≤ i → raised i n f j ≡ f j

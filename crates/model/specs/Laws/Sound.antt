@@ -15,11 +15,12 @@ use Rattle.model.specs.Columns.{Device, columns, kind}
 use Rattle.model.specs.Book.{Running, Book, intervals}
 use Rattle.model.specs.Record.{padded, entry-bytes, head-bytes, column-part, entry-part, record-of, part, column-at, entry-at, device-of, running-of, book-of, listed-intervals}
 use Rattle.model.specs.Sound.{within, count-of, used, sound}
+use Rattle.model.specs.InPlace.{no-entry}
 use Rattle.model.specs.Laws.Limits.{limits-to}
 use Rattle.model.specs.Laws.Cells.{few-intervals}
 use Rattle.model.specs.Laws.Parts.{length-part, getD-part, part-byte, part-add, getD-list, length-list}
 use Rattle.model.specs.Laws.Slots.{slot-map, slot-out}
-use Rattle.model.specs.Laws.Record.{Shows, shows-image, no-entry, kind-out, intervals-out, record-length, record-columns, record-running, record-kind, record-count, record-column, record-entry, record-entry-out}
+use Rattle.model.specs.Laws.Record.{Shows, shows-image, kind-out, intervals-out, record-length, record-columns, record-running, record-kind, record-count, record-column, record-entry, record-entry-out}
 use Rattle.model.specs.Laws.Clauses.{Zero, Clauses, clauses-to, clauses-of}
 use Rattle.model.specs.Laws.WriteBack.{Bytes, two-bytes, word-again, zero-part, bytes-part, entry-again, count-listed, column-again}
 use Rattle.model.specs.Laws.ReadBack.{column-rest, entry-rest, task-sized, device-of-record, book-of-record, blocks-of-record, listed-of-record}

@@ -9,12 +9,12 @@ use lib.Dec.{ltb, eqb}
 use borrow.Author.Tests.{lt-ltb, eqb-true, eqb-false, not-true}
 use Rattle.runs.specs.Laws.Tests.{tests, cond-ind}
 use Rattle.model.specs.Limits.{reach}
-use Rattle.model.specs.Bounded.{any-in}
+use Rattle.model.specs.Bounded.{any-in, In}
 use Rattle.model.specs.Columns.{Device, columns, top}
 use Rattle.model.specs.Tasks.{blocks, block}
 use Rattle.model.specs.Book.{Running, Book, placed, covered, standing, held, free, fits}
 use Rattle.model.specs.Calls.{insert, without}
-use Rattle.model.specs.Laws.Bounded.{and3-to, true-or-false, same-test, In, any-in-to, any-in-of}
+use Rattle.model.specs.Laws.Bounded.{and3-to, true-or-false, same-test, any-in-to, any-in-of}
 use Rattle.model.specs.Laws.Fits.{Fitting, fits-to, fits-of}
 use Rattle.model.specs.Laws.Limits.{Rising, one-number}
 use Rattle.model.specs.Laws.Cells.{covered-to, covered-of}

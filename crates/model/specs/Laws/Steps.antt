@@ -14,16 +14,11 @@ use Rattle.model.specs.Limits.{reach}
 use Rattle.model.specs.Bounded.{any-below}
 use Rattle.model.specs.Columns.{Device, height, kind-C}
 use Rattle.model.specs.Tasks.{Block, blocks, block, step}
+use Rattle.model.specs.Blocks.{Common}
 use Rattle.model.specs.Book.{Book, fits}
 use Rattle.model.specs.Laws.Bounded.{any-to, any-of-one, is-false, clash}
 use Rattle.model.specs.Laws.Columns.{height-two, height-ten}
 use Rattle.model.specs.Laws.Fits.{Fitting, fits-to}
-
--- s is the least common multiple of the heights of the first m blocks
-pub record Common (t : List ℕ) (m s : ℕ) : Type 0 where
-  pub pos : 1 ≤ s
-  pub all : (i : ℕ) → i < m → Multiple (height (block t i .kind)) s
-  pub least : (x : ℕ) → ((i : ℕ) → i < m → Multiple (height (block t i .kind)) x) → Multiple s x
 
 module _ (t : List ℕ) where
   abbrev logic : ℕ → Bool

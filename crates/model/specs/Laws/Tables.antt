@@ -9,8 +9,9 @@ use lib.ListN.{length, getD, set, length-append}
 use lib.Seq.{getD-set-same, getD-set-other}
 use Rattle.model.specs.Bounded.{join-below, list-below}
 use Rattle.model.specs.Record.{part}
+use Rattle.model.specs.Parts.{splice}
 use Rattle.model.specs.Laws.Changed.{changed, changed-same, changed-other}
-use Rattle.model.specs.Laws.Parts.{splice, getD-part, part-part, part-all, part-at, part-end, join-cong, length-join, part-join, join-parts, length-splice, part-splice, part-splice-below, part-splice-above, getD-list, part-add}
+use Rattle.model.specs.Laws.Parts.{getD-part, part-part, part-all, part-at, part-end, join-cong, length-join, part-join, join-parts, length-splice, part-splice, part-splice-below, part-splice-above, getD-list, part-add}
 
 module _ {ℓ} {A : Type ℓ} where
   -- ---- tables in the middle of a list

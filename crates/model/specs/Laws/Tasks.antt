@@ -14,6 +14,7 @@ use Rattle.model.specs.Limits.{max-columns, max-kind, max-blocks, block-
 use Rattle.model.specs.Bounded.{all-below}
 use Rattle.model.specs.Columns.{height}
 use Rattle.model.specs.Tasks.{Block, blocks, block, sized, block-ok, follows, well-formed}
+use Rattle.model.specs.Blocks.{Solid}
 use Rattle.model.specs.Laws.Bounded.{and3-to, and4-to, and5-to, or-to, all-to}
 
 -- ---- whole blocks
@@ -31,13 +32,6 @@ sized-to t h =
     record { some-blocks = omega tests; few = omega tests; whole = omega tests }
 
 -- ---- a block by itself
-
-pub record Solid (b : Block) : Type 0 where
-  pub column : b .column < max-columns
-  pub kind : b .kind ≤ max-kind
-  pub full : b .low < b .high
-  pub below : b .high ≤ 2 * reach
-  pub whole : (b .high - b .low) % height (b .kind) ≡ 0
 
 pub solid : (b : Block) → block-ok b ≡ true → Solid b
 unfolding block-ok

@@ -12,13 +12,14 @@ use Rattle.model.specs.Columns.{Device, height, kind}
 use Rattle.model.specs.Book.{Running, Book, covered, standing, held, fits}
 use Rattle.model.specs.Sound.{within}
 use Rattle.model.specs.Calls.{insert}
-use Rattle.model.specs.Laws.Bounded.{is-false, In, any-in-to}
+use Rattle.model.specs.Bounded.{In}
+use Rattle.model.specs.InPlace.{no-entry}
+use Rattle.model.specs.Laws.Bounded.{is-false, any-in-to}
 use Rattle.model.specs.Laws.Columns.{height-pos}
 use Rattle.model.specs.Laws.Limits.{Rising, limits-to, rising-above}
 use Rattle.model.specs.Laws.Cells.{covered-holds}
 use Rattle.model.specs.Laws.Split.{fits-split}
 use Rattle.model.specs.Laws.Kept.{apart-cells}
-use Rattle.model.specs.Laws.Record.{no-entry}
 use Rattle.model.specs.Laws.ReadBack.{getD-in}
 use Rattle.record.specs.Rebuild.{prior}
 

@@ -17,17 +17,19 @@ use Rattle.model.specs.Columns.{Device, columns, kind, top-in, top, device-ok}
 use Rattle.model.specs.Book.{free, held, intervals}
 use Rattle.model.specs.Bounded.{any-in}
 use Rattle.model.specs.Record.{bytes16, interval-bytes, head-bytes, column-part, entry-part, record-of, column-at, entry-at}
+use Rattle.model.specs.Parts.{splice}
+use Rattle.model.specs.InPlace.{Reads, put-column}
 use Rattle.model.specs.Laws.Clauses.{Zero}
 use Rattle.model.specs.Laws.WriteBack.{zero-part}
 use Rattle.model.specs.Laws.Limits.{limits-to, kind-le}
 use Rattle.model.specs.Laws.Kept.{within-new}
 use Rattle.model.specs.Laws.Split.{free-of}
 use Rattle.model.specs.Laws.Changed.{upto, upto-none, upto-step, upto-out, upto-is}
-use Rattle.model.specs.Laws.Parts.{splice, splice-same, splice-more, part-set-above, set-two}
+use Rattle.model.specs.Laws.Parts.{splice-same, splice-more, part-set-above, set-two}
 use Rattle.model.specs.Laws.Slots.{slot-out}
 use Rattle.model.specs.Laws.ColumnPart.{column-push}
-use Rattle.model.specs.Laws.Layout.{Reads, reads-kind, reads-head, reads-column, reads-count, reads-cong}
-use Rattle.model.specs.Laws.Record.{shows-image, put-column, length-column, column-part-nil, kind-out, intervals-out}
+use Rattle.model.specs.Laws.Layout.{reads-kind, reads-head, reads-column, reads-count, reads-cong}
+use Rattle.model.specs.Laws.Record.{shows-image, length-column, column-part-nil, kind-out, intervals-out}
 use Rattle.record.specs.Clear.{Closed}
 
 -- ---- one column

@@ -20,13 +20,14 @@ use Rattle.model.specs.Tasks.{block, blocks, sized, well-formed}
 use Rattle.model.specs.Book.{Book, Placed, covers, free, fits, intervals}
 use Rattle.model.specs.Record.{part, column-at, image, record-of, device-of, book-of}
 use Rattle.model.specs.Sound.{within, sound}
+use Rattle.model.specs.InPlace.{put-column}
 use Rattle.model.specs.Laws.Bounded.{and3-to}
 use Rattle.model.specs.Laws.Columns.{height-two, top-le}
 use Rattle.model.specs.Laws.Tasks.{sized-to, solid-block}
 use Rattle.model.specs.Laws.Fits.{fits-to, fits-below}
 use Rattle.model.specs.Laws.Cells.{intervals-grid}
 use Rattle.model.specs.Laws.Changed.{changed, changed-same, changed-other}
-use Rattle.model.specs.Laws.Record.{put-column, image-shows, image-column, image-cong}
+use Rattle.model.specs.Laws.Record.{image-shows, image-column, image-cong}
 use Rattle.model.specs.Laws.WriteBack.{Bytes}
 use Rattle.model.specs.Laws.Sound.{sound-record}
 use Rattle.column.specs.Laws.Part.{Encodes, free-small}

@@ -19,12 +19,13 @@ use Rattle.model.specs.Book.{Running, Book, Placed, placed, covers, covered, fr
 use Rattle.model.specs.Record.{part, column-at, device-of, book-of}
 use Rattle.model.specs.Calls.{insert}
 use Rattle.model.specs.Sound.{within, count-of, sound}
+use Rattle.model.specs.InPlace.{put-column}
 use Rattle.model.specs.Laws.Bounded.{and-to, same-test, is-false, clash}
 use Rattle.model.specs.Laws.Limits.{limits-to}
 use Rattle.model.specs.Laws.Cells.{block-grid}
 use Rattle.model.specs.Laws.Split.{neither}
 use Rattle.model.specs.Laws.Freed.{free-insert}
-use Rattle.model.specs.Laws.Record.{put-column, image-shows}
+use Rattle.model.specs.Laws.Record.{image-shows}
 use Rattle.model.specs.Laws.WriteBack.{Bytes}
 use Rattle.column.specs.Part.{Room}
 use Rattle.column.specs.Laws.Part.{room-of}

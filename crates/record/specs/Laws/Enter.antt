@@ -15,12 +15,13 @@ use Rattle.model.specs.Book.{Running, placed, intervals}
 use Rattle.model.specs.Record.{part, column-at, record-of, device-of, book-of}
 use Rattle.model.specs.Calls.{insert}
 use Rattle.model.specs.Sound.{count-of, number-ok}
+use Rattle.model.specs.InPlace.{put-column, place}
 use Rattle.model.specs.Laws.Bounded.{and-to}
 use Rattle.model.specs.Laws.Tasks.{sized-to}
 use Rattle.model.specs.Laws.Fits.{fits-below}
 use Rattle.model.specs.Laws.Limits.{Limits, limits-to}
-use Rattle.model.specs.Laws.Record.{put-column, Shows, image-shows, image-cong, shows-image, running-read}
-use Rattle.model.specs.Laws.Entries.{place, place-le}
+use Rattle.model.specs.Laws.Record.{Shows, image-shows, image-cong, shows-image, running-read}
+use Rattle.model.specs.Laws.Entries.{place-le}
 use Rattle.model.specs.Laws.Sound.{sound-within}
 use Rattle.task.specs.declared.Block.{Block as Read}
 use Rattle.task.specs.Blocks.{Same}

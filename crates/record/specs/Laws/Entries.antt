@@ -15,11 +15,11 @@ use Rattle.model.specs.Book.{Book}
 use Rattle.model.specs.Calls.{without, runs-in}
 use Rattle.model.specs.Record.{entry-at, device-of, book-of}
 use Rattle.model.specs.Sound.{sound}
+use Rattle.model.specs.InPlace.{no-entry, place}
 use Rattle.model.specs.Laws.Bounded.{any-in-none, any-in-of}
 use Rattle.model.specs.Laws.Limits.{Rising, rising-above, limits-to}
-use Rattle.model.specs.Laws.Record.{no-entry}
 use Rattle.model.specs.Laws.ReadBack.{getD-in}
-use Rattle.model.specs.Laws.Entries.{place, without-none}
+use Rattle.model.specs.Laws.Entries.{without-none}
 use Rattle.model.specs.Laws.Sound.{running-said, sound-within}
 use Rattle.record.specs.declared.entries.Found.the-variants.{At, Nowhere}
 use Rattle.record.specs.Entries.{Finds}

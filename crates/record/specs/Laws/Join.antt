@@ -9,19 +9,19 @@ use Rattle.runs.specs.Intervals.{unite}
 use Rattle.runs.specs.Laws.Intervals.{intervals-free, free-intervals, unite-free}
 use Rattle.runs.specs.Laws.Grid.{unite-grid}
 use Rattle.model.specs.Limits.{column-size}
-use Rattle.model.specs.Bounded.{any-below}
+use Rattle.model.specs.Bounded.{any-below, In}
 use Rattle.model.specs.Columns.{Device, height, kind, top}
 use Rattle.model.specs.Tasks.{block, blocks}
 use Rattle.model.specs.Book.{Running, Book, Placed, placed, covers, covered, standing, free, intervals}
 use Rattle.model.specs.Record.{part, column-at, device-of, book-of}
 use Rattle.model.specs.Calls.{without}
 use Rattle.model.specs.Sound.{within, count-of, sound}
-use Rattle.model.specs.Laws.Bounded.{In, or-to, or-of, same-test}
+use Rattle.model.specs.InPlace.{put-column}
+use Rattle.model.specs.Laws.Bounded.{or-to, or-of, same-test}
 use Rattle.model.specs.Laws.Fits.{fits-to}
 use Rattle.model.specs.Laws.Limits.{Entry, limits-to}
 use Rattle.model.specs.Laws.Cells.{block-grid}
 use Rattle.model.specs.Laws.Freed.{free-without}
-use Rattle.model.specs.Laws.Record.{put-column}
 use Rattle.model.specs.Laws.WriteBack.{Bytes}
 use Rattle.column.specs.Part.{Joinable}
 use Rattle.column.specs.Laws.Part.{joinable-of}

@@ -13,11 +13,13 @@ use Rattle.model.specs.Book.{Running, Book, placed, standing, intervals}
 use Rattle.model.specs.Record.{part, column-at, entry-at, record-of, device-of, book-of}
 use Rattle.model.specs.Calls.{without, runs-in}
 use Rattle.model.specs.Sound.{sound, count-of, block-count}
-use Rattle.model.specs.Laws.Bounded.{In, clash}
+use Rattle.model.specs.Bounded.{In}
+use Rattle.model.specs.InPlace.{put-column, no-entry}
+use Rattle.model.specs.Laws.Bounded.{clash}
 use Rattle.model.specs.Laws.Limits.{limits-to}
 use Rattle.model.specs.Laws.Parts.{part-part}
 use Rattle.model.specs.Laws.Clauses.{clauses-to}
-use Rattle.model.specs.Laws.Record.{put-column, Shows, image-shows, image-cong, shows-image, record-shows, running-read, no-entry}
+use Rattle.model.specs.Laws.Record.{Shows, image-shows, image-cong, shows-image, record-shows, running-read}
 use Rattle.model.specs.Laws.WriteBack.{Bytes}
 use Rattle.model.specs.Laws.ReadBack.{getD-in}
 use Rattle.model.specs.Laws.Sound.{running-said, sound-length, sound-within, sound-record}

@@ -12,10 +12,11 @@ use Rattle.model.specs.Tasks.{blocks, sized}
 use Rattle.model.specs.Book.{Running, Book}
 use Rattle.model.specs.Calls.{insert}
 use Rattle.model.specs.Record.{bytes16, padded, part, entry-bytes, entry-at}
+use Rattle.model.specs.Parts.{splice, raised, lowered}
 use Rattle.model.specs.Laws.Tasks.{sized-to}
 use Rattle.model.specs.Laws.Changed.{changed, changed-same, changed-other}
-use Rattle.model.specs.Laws.Parts.{splice, splice-more, set-splice, length-splice, length-part}
-use Rattle.model.specs.Laws.Slots.{raised, raised-low, raised-in, raised-high, lowered, lowered-low, lowered-in, lowered-high, padded-is, length-padded}
+use Rattle.model.specs.Laws.Parts.{splice-more, set-splice, length-splice, length-part}
+use Rattle.model.specs.Laws.Slots.{raised-low, raised-in, raised-high, lowered-low, lowered-in, lowered-high, padded-is, length-padded}
 use Rattle.model.specs.Laws.Layout.{reads-entry, reads-cong}
 use Rattle.model.specs.Laws.Record.{running-read}
 use Rattle.model.specs.Laws.Entries.{entry-insert, entry-remove, reads-book, length-insert}

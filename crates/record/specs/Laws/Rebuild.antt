@@ -20,12 +20,13 @@ use Rattle.model.specs.Book.{Running, fits}
 use Rattle.model.specs.Record.{record-of, part, entry-at, device-of, book-of}
 use Rattle.model.specs.Sound.{number-ok, block-count, sound}
 use Rattle.model.specs.Calls.{insert}
-use Rattle.model.specs.Laws.Bounded.{clash, is-false, same-test, true-or-false, In}
+use Rattle.model.specs.Bounded.{In}
+use Rattle.model.specs.InPlace.{no-entry}
+use Rattle.model.specs.Laws.Bounded.{clash, is-false, same-test, true-or-false}
 use Rattle.model.specs.Laws.Limits.{Entry, limits-to, within-device}
 use Rattle.model.specs.Laws.Split.{fits-split}
 use Rattle.model.specs.Laws.Kept.{within-new, insert-within}
 use Rattle.model.specs.Laws.Parts.{list-parts}
-use Rattle.model.specs.Laws.Record.{no-entry}
 use Rattle.model.specs.Laws.Clauses.{clauses-to}
 use Rattle.model.specs.Laws.WriteBack.{Bytes}
 use Rattle.model.specs.Laws.ReadBack.{getD-in, device-of-record, book-of-record}

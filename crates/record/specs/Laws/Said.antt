@@ -10,8 +10,8 @@ use Rattle.model.specs.Tasks.{word, blocks}
 use Rattle.model.specs.Book.{Running}
 use Rattle.model.specs.Record.{part, entry-at, running-of, book-of}
 use Rattle.model.specs.Sound.{block-count}
+use Rattle.model.specs.InPlace.{no-entry}
 use Rattle.model.specs.Laws.Parts.{getD-part, part-part, getD-list, length-part}
-use Rattle.model.specs.Laws.Record.{no-entry}
 use Rattle.model.specs.Laws.ColumnPart.{word-part}
 use Rattle.model.specs.Laws.Sound.{running-said}
 use Rattle.record.specs.Entries.{entry-of, blocks-of, bytes-entry, HasEntry}

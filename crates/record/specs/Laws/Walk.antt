@@ -13,8 +13,8 @@ use Rattle.model.specs.Columns.{Device, height, kind, top}
 use Rattle.model.specs.Book.{Book, Placed, free}
 use Rattle.model.specs.Record.{part, column-at, image}
 use Rattle.model.specs.Sound.{within, count-of}
+use Rattle.model.specs.InPlace.{put-column}
 use Rattle.model.specs.Laws.Limits.{limits-to}
-use Rattle.model.specs.Laws.Record.{put-column}
 use Rattle.column.specs.Laws.Part.{Encodes, encodes}
 use Rattle.record.specs.Columns.{column-list, runs-of}
 use Rattle.record.specs.Laws.Columns.{runs-same, Gridded, free-gridded, few-runs, encoded, column-changed}

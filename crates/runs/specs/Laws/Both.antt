@@ -10,12 +10,8 @@ use Rattle.runs.specs.Laws.Tests.{lt-or-ge}
 use Rattle.runs.specs.Runs.{Run, Steps, In, Mem, Canon, push, mem, Lists}
 use Rattle.runs.specs.Laws.Canon.{mem-ge, from-weaken}
 use Rattle.runs.specs.Laws.Runs.{InStep, skip-lists, push-lists, mem-true, mem-test}
-use Rattle.runs.specs.Meet.{Lcm}
+use Rattle.runs.specs.Meet.{Lcm, Spaced, Meeting}
 use Rattle.runs.specs.Laws.Lcm.{lcm-steps}
-
--- of the numbers that L names, the higher is in steps of s above the lower
-abbrev pub Spaced : ℕ → List Run → Type 0
-Spaced s L = (x y : ℕ) → Mem s x L → Mem s y L → x < y → Steps s (x + s) y
 
 -- ---- the walk: s is the step of what is written, f the test of what is sought
 
@@ -101,11 +97,6 @@ module _ (a b s : ℕ) (f : ℕ → Bool) (p : 1 ≤ a) (q : 1 ≤ b) (i : InSte
 -- the numbers that both name, as a test
 abbrev pub both? : ℕ → ℕ → List Run → List Run → ℕ → Bool
 both? a b A B y = mem a y A && mem b y B
-
--- O is canonical in step s, and names exactly what both A, in step a, and B, in step b, name
-pub record Meeting (a b s : ℕ) (A B O : List Run) : Type 0 where
-  pub canon : Canon s O
-  pub named : (y : ℕ) → Mem s y O ↔ (Mem a y A × Mem b y B)
 
 module _ (a b : ℕ) (A B : List Run) where
   both-to : (y : ℕ) → both? a b A B y ≡ true → Mem a y A × Mem b y B

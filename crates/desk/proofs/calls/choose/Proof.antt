@@ -9,7 +9,7 @@ returns : tie.Need-returns
 returns c =
     let y = c .before .before in
     let p = y .before .before in
-    rw (read w32 (p .card-choose .ok), p .card-choose .ensures) at (y .say .ensures)
+    rw (read w32 (p .card-choose .ok), p .card-choose .ensures .answer-is) at (y .say .ensures)
 
 pub choose-spec : {M : Type 1} → statement M
 choose-spec = tie.close (tie.spec (λ c κs. search needs) (λ c κs. search needs) (λ c. search needs) returns)

@@ -17,7 +17,7 @@ use Rattle.line.proofs.device.device_line.Tie as tie
 
 -- the line, and the place where the rows were taken apart
 abbrev text : tie.After-rows → List ℕ
-text c = c .before .before .before .before .before .before .args .line .now
+text c = c .before .before .before .before .before .args .line .now
 
 abbrev at-rows : tie.Else2 → tie.After-rows
 at-rows c = c .before .before
@@ -48,19 +48,18 @@ returns-5 c =
 
 returns-6 : tie.Need-returns-6
 returns-6 c =
-    let p = c .before .before in
-    let k = p .before .before .before in
+    let k = c .before .before .before in
     let e = k .before .before .before in
     let f = e .before in
     let r = at-rows (f .before) in
     let all = rw part-end at (took (k .before .all-kinds .ensures) (not-false (k .before .all-kinds .result) (k .if4 .left))) in
     answers-device _ _ _
     (device-is _ _ _ (rows r .1) (f .field-end .ensures .0) (f .before .if2 .left) (e .if3 .left) (r .before .before .before .if1 .left) (rows r .0) all)
-    (rw part-end at (p .put-kinds .ensures))
+    (rw part-end at (c .put-kinds .ensures))
 
 pub device-line-spec : {M : Type 1} → statement M
 device-line-spec =
     tie.close
     (tie.spec returns (λ c κs. search needs) (λ c. search needs) (λ c. search needs) returns-2 returns-3 (λ c κs. search needs) returns-4
     (λ c. search needs) (λ c. search needs) (λ c. search needs) (λ c κs. search needs) returns-5
-    (λ c. search needs) (λ c. search needs) (λ c. search needs) (λ c κs. search needs) (λ c. search needs) (λ c. search needs) returns-6)
+    (λ c. search needs) (λ c. search needs) (λ c. search needs) (λ c κs. search needs) (λ c. search needs) returns-6)

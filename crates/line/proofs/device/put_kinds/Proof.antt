@@ -4,7 +4,7 @@ use mathlib.Core.Path.{_≡_, refl, _∙_}
 use Prim.Native.Nat.{_≤_, _-_}
 use native.Mathlib.Omega.{arith}
 use lib.ListN.{length, take, length-set}
-use Rattle.model.specs.Laws.Parts.{splice}
+use Rattle.model.specs.Parts.{splice}
 use Rattle.line.specs.Device.{kinds-of}
 use Rattle.line.specs.Laws.Device.{kinds-none, kinds-put, kinds-all}
 use Rattle.line.proofs.device.put_kinds.Statement.{statement}

@@ -4,7 +4,7 @@ use native.Mathlib.Omega.{arith}
 use borrow.Author.Needs.{needs}
 use lib.ListN.{length}
 use Rattle.model.specs.Record.{bytes16}
-use Rattle.model.specs.Laws.Parts.{splice}
+use Rattle.model.specs.Parts.{splice}
 use Rattle.model.specs.Laws.Record.{length-column}
 use Rattle.record.specs.Laws.Clear.{part-one}
 use Rattle.record.proofs.clear.free_part.Statement.{statement}

@@ -7,8 +7,8 @@ use borrow.Author.Needs.{needs}
 use lib.ListN.{length-set}
 use Rattle.model.specs.Limits.{kinds-at}
 use Rattle.model.specs.Record.{part}
+use Rattle.model.specs.Parts.{splice}
 use Rattle.model.specs.Laws.Columns.{top-in-le}
-use Rattle.model.specs.Laws.Parts.{splice}
 use Rattle.record.specs.Laws.Clear.{closed-kind, open-none, open-one}
 use Rattle.record.proofs.clear.open_column.Statement.{statement}
 use Rattle.record.proofs.clear.open_column.Tie as tie

@@ -3,8 +3,8 @@ use native.Mathlib.Omega.{arith}
 use native.Mathlib.Nat.{add-sub-cancel-left}
 use borrow.Author.Needs.{needs}
 use Rattle.model.specs.Record.{part}
-use Rattle.model.specs.Laws.Parts.{splice}
-use Rattle.model.specs.Laws.Record.{put-column}
+use Rattle.model.specs.Parts.{splice}
+use Rattle.model.specs.InPlace.{put-column}
 use Rattle.record.proofs.enter.cut_column.Statement.{statement}
 use Rattle.record.proofs.enter.cut_column.Tie as tie
 

@@ -6,7 +6,8 @@ use borrow.Author.Needs.{needs}
 use lib.ListN.{length}
 use Rattle.model.specs.Limits.{record-size, entry-size}
 use Rattle.model.specs.Record.{part, entry-at}
-use Rattle.model.specs.Laws.Parts.{splice, splice-none, splice-copy}
+use Rattle.model.specs.Parts.{splice}
+use Rattle.model.specs.Laws.Parts.{splice-none, splice-copy}
 use Rattle.record.proofs.entries.copy_entry.Statement.{statement}
 use Rattle.record.proofs.entries.copy_entry.Tie as tie
 

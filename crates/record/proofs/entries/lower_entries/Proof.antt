@@ -5,7 +5,7 @@ use native.Mathlib.Omega.{arith}
 use borrow.Author.Needs.{needs}
 use lib.ListN.{length}
 use Rattle.model.specs.Limits.{record-size}
-use Rattle.model.specs.Laws.Slots.{lowered}
+use Rattle.model.specs.Parts.{lowered}
 use Rattle.record.specs.Entries.{Moved}
 use Rattle.record.specs.Laws.Moved.{lowered-none, lowered-more}
 use Rattle.record.proofs.entries.lower_entries.Statement.{statement}

@@ -5,7 +5,7 @@ use native.Mathlib.Omega.{arith}
 use borrow.Author.Needs.{needs}
 use lib.ListN.{length}
 use Rattle.model.specs.Limits.{record-size}
-use Rattle.model.specs.Laws.Slots.{raised}
+use Rattle.model.specs.Parts.{raised}
 use Rattle.record.specs.Entries.{Moved}
 use Rattle.record.specs.Laws.Moved.{raised-none, raised-more}
 use Rattle.record.proofs.entries.raise_entries.Statement.{statement}

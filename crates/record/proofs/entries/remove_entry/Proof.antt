@@ -8,7 +8,7 @@ use borrow.Rule.Slice.PartMut.{mid-len}
 use lib.ListN.{take, drop, length-set}
 use Rattle.model.specs.Limits.{entry-size}
 use Rattle.model.specs.Record.{entry-at}
-use Rattle.model.specs.Laws.Parts.{splice}
+use Rattle.model.specs.Parts.{splice}
 use Rattle.record.specs.Laws.Moved.{removed-by}
 use Rattle.record.proofs.entries.remove_entry.Statement.{statement}
 use Rattle.record.proofs.entries.remove_entry.Tie as tie

@@ -5,7 +5,7 @@ use native.Mathlib.Omega.{arith}
 use borrow.Author.Needs.{needs}
 use lib.ListN.{length, length-set}
 use Rattle.model.specs.Tasks.{blocks}
-use Rattle.model.specs.Laws.Parts.{splice}
+use Rattle.model.specs.Parts.{splice}
 use Rattle.model.specs.Laws.Tasks.{sized-to}
 use Rattle.record.specs.Laws.Moved.{entry-written}
 use Rattle.record.proofs.entries.write_entry.Statement.{statement}
