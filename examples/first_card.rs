@@ -5,13 +5,12 @@
 use std::error::Error;
 use std::io::{self, Write};
 
-use card::{Card, Device, Kind, Running, Task, LIST_ROOM};
+use card::{Card, Device, Kind, Task, LIST_ROOM};
 
 /// Makes the calls on one card and says what they give.
 pub fn run(out: &mut impl Write) -> Result<(), Box<dyn Error>> {
     // 5 rows are 10 half rows. Two columns of logic (C), one of memory (B).
-    let device = Device::new(5, &[Kind::C, Kind::C, Kind::B])?;
-    let mut card = Card::new(&device);
+    let mut card = Card::new(&Device::from_text(5, "CCB")?);
 
     // A circuit is a task of blocks: column, kind, bottom and top, relative to the first block.
     let task = Task::builder()
@@ -19,13 +18,12 @@ pub fn run(out: &mut impl Write) -> Result<(), Box<dyn Error>> {
         .block(1, Kind::C, -2, 2)
         .block(2, Kind::B, 1, 6)
         .build()?;
+    writeln!(out, "The circuit: {task}.")?;
 
     // List gives every position at which all blocks fit free cells, as ranges. The caller lends the output.
     let mut output = [0; LIST_ROOM];
     for range in card.list(&task, &mut output)? {
-        for position in range.positions() {
-            writeln!(out, "The circuit fits at {position}.")?;
-        }
+        writeln!(out, "It fits at {range}.")?;
     }
 
     // Choose gives the best of them. Place loads the circuit there, under a number of ours.
@@ -33,12 +31,21 @@ pub fn run(out: &mut impl Write) -> Result<(), Box<dyn Error>> {
     card.place(&task, 7, best)?;
     writeln!(out, "Loaded as number 7 at {best}.")?;
 
-    // A refusal says why, and nothing has changed.
-    if let Err(refusal) = card.choose(&task) {
+    refusals(&card, &task, out)?;
+    load_and_unload(&mut card, out)
+}
+
+/// A refusal says why, and nothing has changed.
+fn refusals(card: &Card, task: &Task, out: &mut impl Write) -> Result<(), Box<dyn Error>> {
+    if let Err(refusal) = card.choose(task) {
         writeln!(out, "The same circuit once more: {refusal}.")?;
     }
-
-    load_and_unload(&mut card, out)
+    // Of a task that is not well-formed, check says which block is to blame.
+    let wrong = Task::of(Kind::B, 4);
+    if let (Err(refusal), Err(broken)) = (card.choose(&wrong), wrong.check()) {
+        writeln!(out, "A wrong one: {refusal}; {broken}.")?;
+    }
+    Ok(())
 }
 
 /// A second circuit beside the first, the card drawn, and the first one unloaded.
@@ -48,41 +55,20 @@ fn load_and_unload(card: &mut Card, out: &mut impl Write) -> Result<(), Box<dyn 
     let best = card.choose(&small)?;
     card.place(&small, 8, best)?;
     writeln!(out, "A small one, loaded as number 8 at {best}. The card:")?;
-    draw(card, out)?;
+    writeln!(out, "{card}")?;
+
+    // Who is there? Any half row of a cell will do.
+    if let Some(running) = card.running_at(1, 2) {
+        writeln!(out, "Column 1, half row 2 is held by {running}.")?;
+    }
 
     // Release unloads. The freed cells are joined to free neighbours on both sides.
     card.release(7)?;
+    // One call for a column, and not one for each half row: every call checks the whole record.
     for free in card.intervals(0)? {
-        let (bottom, top) = (free.bottom, free.top);
-        writeln!(out, "7 unloaded; free in column 0: {bottom} up to {top}.")?;
+        writeln!(out, "7 unloaded; free in column 0: {free}.")?;
     }
     Ok(())
-}
-
-/// Draws the card, highest half row first: running numbers, `.` where a cell is free, `|` where none is.
-fn draw(card: &Card, out: &mut impl Write) -> Result<(), Box<dyn Error>> {
-    for half_row in (0..2 * card.device().rows() as i16).rev() {
-        write!(out, "{half_row:4}")?;
-        for column in 0..card.device().columns() {
-            let is_free = card.intervals(column)?.any(|free| free.contains(half_row));
-            match card.running().find(|task| holds(task, column, half_row)) {
-                Some(task) => write!(out, "{:3}", task.number)?,
-                None if is_free => write!(out, "  .")?,
-                None => write!(out, "  |")?,
-            }
-        }
-        writeln!(out)?;
-    }
-    Ok(())
-}
-
-/// Whether a running task holds a half row of a column.
-fn holds(running: &Running, column: u8, half_row: i16) -> bool {
-    let at = running.position;
-    running.task.blocks().any(|block| {
-        let half_rows = at.bottom + block.bottom..at.bottom + block.top;
-        at.column + block.column == column && half_rows.contains(&half_row)
-    })
 }
 
 fn main() -> Result<(), Box<dyn Error>> {

@@ -10,7 +10,7 @@
  *   column from first to last, one step apart.
  *
  * The caller keeps, and nothing checks, that
- *   - each pointer is not null and valid for its length, for writing where it is not const;
+ *   - each pointer is valid for its length, for writing where it is not const; with length 0 it may be any, NULL too;
  *   - a part that is written overlaps no other part of the same call;
  *   - nobody else writes or reads a record while a call writes it.
  *
@@ -20,6 +20,10 @@
  *   - nothing outside the lent bytes is read or written, and every call returns.
  *
  * No pointer is kept and nothing is allocated: of the C library the archive needs memcpy and memset.
+ *
+ * A stack that runs out is outside of these promises. card_new needs at most 8 KiB of stack and every other
+ * call at most 36 KiB, whatever its input: no function calls itself, and each frame has a fixed size.
+ * host/card/tests/stack measures both figures.
  */
 #ifndef WALLARNICA_CARD_H
 #define WALLARNICA_CARD_H
@@ -27,14 +31,57 @@
 #include <stddef.h>
 #include <stdint.h>
 
-#define CARD_RECORD_SIZE 29188  /* the bytes of a record */
-#define CARD_LIST_ROOM 24576    /* the least output of card_list */
-#define CARD_BLOCK_SIZE 6       /* the bytes of a block */
-#define CARD_RANGE_SIZE 6       /* the bytes of a range */
+/* Limits. */
 #define CARD_MAX_ROWS 128
 #define CARD_MAX_COLUMNS 64
-#define CARD_MAX_BLOCKS 32      /* in a task */
-#define CARD_MAX_RUNNING 64     /* tasks on a card */
+#define CARD_MAX_BLOCKS 32    /* in a task */
+#define CARD_MAX_RUNNING 64   /* tasks on a card */
+#define CARD_MAX_INTERVALS 64 /* in a column */
+#define CARD_REACH 256        /* a block's bottom is at least minus this, its top at most this */
+
+/* Lengths, in bytes. */
+#define CARD_RECORD_SIZE 29188
+#define CARD_LIST_ROOM 24576  /* the least output of card_list */
+#define CARD_BLOCK_SIZE 6
+#define CARD_RANGE_SIZE 6
+#define CARD_INTERVAL_SIZE 4
+#define CARD_COLUMN_SIZE 256  /* one column's intervals */
+#define CARD_ENTRY_SIZE 198   /* a running entry */
+
+/* Where things stand in a record. It can be read as it stands once a call on it has answered 0 or more:
+   it is sound then, and stays so while nobody else writes it. The intervals of column c start at
+   CARD_INTERVALS_AT + c * CARD_COLUMN_SIZE, running entry j at CARD_ENTRIES_AT + j * CARD_ENTRY_SIZE. */
+#define CARD_ROWS_AT 0        /* 2 bytes */
+#define CARD_COLUMNS_AT 2
+#define CARD_RUNNING_AT 3     /* how many tasks run */
+#define CARD_KINDS_AT 4       /* a byte for each column */
+#define CARD_COUNTS_AT 68     /* a byte for each column: how many intervals it has */
+#define CARD_INTERVALS_AT 132 /* upwards in each column */
+#define CARD_ENTRIES_AT 16516 /* by rising number */
+
+/* In an interval: a maximal run of free cells, top excluded. */
+#define CARD_INTERVAL_BOTTOM_AT 0 /* 2 bytes */
+#define CARD_INTERVAL_TOP_AT 2    /* 2 bytes */
+
+/* In a running entry: a task and where it was placed. */
+#define CARD_ENTRY_NUMBER_AT 0 /* 2 bytes */
+#define CARD_ENTRY_COLUMN_AT 2
+#define CARD_ENTRY_COUNT_AT 3  /* how many blocks it has */
+#define CARD_ENTRY_BOTTOM_AT 4 /* 2 bytes */
+#define CARD_BLOCKS_AT 6       /* its blocks, from its seventh byte on */
+
+/* In a block. */
+#define CARD_BLOCK_COLUMN_AT 0
+#define CARD_BLOCK_KIND_AT 1
+#define CARD_BLOCK_BOTTOM_AT 2 /* 2 bytes, signed */
+#define CARD_BLOCK_TOP_AT 4    /* 2 bytes, signed; excluded */
+
+/* In a range. */
+#define CARD_RANGE_COLUMN_AT 0
+#define CARD_RANGE_STEP_AT 1
+#define CARD_RANGE_FIRST_AT 2 /* 2 bytes */
+#define CARD_RANGE_LAST_AT 4  /* 2 bytes */
+
 #define CARD_COLUMN_WEIGHT 1024 /* card_choose answers column * this + bottom */
 
 /* The kind bytes. */
@@ -64,6 +111,9 @@ enum card_refusal {
 extern "C" {
 #endif
 
+/* Every call but card_new first checks the whole record, byte by byte and task by task. So even a call that asks for
+   little is not cheap, and it costs the more the more blocks run: to look at many columns, read the record instead. */
+
 /* Writes the record of a device, a column for each kind byte, all cells free. Answers 0, -1 or -3. */
 int32_t card_new(uint8_t *record, size_t record_len, uint32_t rows, const uint8_t *kinds, size_t kinds_len);
 
@@ -83,7 +133,7 @@ int32_t card_list(const uint8_t *record, size_t record_len, const uint8_t *task,
 /* Answers the best position of a task, column * 1,024 + bottom, or -1, -2, -4, -5 or -9. */
 int32_t card_choose(const uint8_t *record, size_t record_len, const uint8_t *task, size_t task_len);
 
-/* Answers how many free intervals a column has, or -1, -2 or -3. */
+/* Answers how many free intervals a column has, or -1, -2 or -3. They stand in the record, as said above. */
 int32_t card_interval_count(const uint8_t *record, size_t record_len, uint32_t column);
 
 #ifdef __cplusplus

@@ -4,6 +4,9 @@
 //! is refused by its number, and no byte changes. [`outcome`](crate::outcome)
 //! turns an answer into a `Result`. [`Card`](crate::Card) is the same with types.
 //!
+//! Every call but new checks the whole record first, byte by byte and task by
+//! task; [`Card`](crate::Card#what-a-call-costs) says what that costs.
+//!
 //! ```
 //! use card::bytes;
 //!

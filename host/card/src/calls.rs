@@ -7,17 +7,17 @@ use crate::{outcome, Card, Intervals, Position, Ranges, Refusal, Task};
 impl<B: AsRef<[u8]> + AsMut<[u8]>> Card<B> {
     /// Place: enters the task as running under a number, and takes its cells.
     ///
-    /// Refuses with −5, −7 (number 0, or running), −8 (64 tasks run) or −10
+    /// [Checks the whole record](Card#what-a-call-costs). Refuses with −5, −7 (number 0, or running), −8 (64 tasks run) or −10
     /// (it does not fit there).
     ///
     /// ```
     /// use card::{Card, Device, Kind, Position, Refusal, Task};
     ///
-    /// let mut card = Card::new(&Device::new(5, &[Kind::C])?);
+    /// let mut card = Card::new(&Device::from_text(5, "C")?);
     /// let task = Task::of(Kind::C, 2);
-    /// card.place(&task, 7, Position { column: 0, bottom: 4 })?;
+    /// card.place(&task, 7, Position::new(0, 4))?;
     ///
-    /// let odd = Position { column: 0, bottom: 1 };
+    /// let odd = Position::new(0, 1);
     /// assert_eq!(card.place(&task, 8, odd), Err(Refusal::Misfit));
     /// # Ok::<(), Refusal>(())
     /// ```
@@ -37,11 +37,13 @@ impl<B: AsRef<[u8]> + AsMut<[u8]>> Card<B> {
     /// Release: frees the cells of a running task, joined to free neighbours on
     /// both sides, and removes it; −11 where the number is not running.
     ///
+    /// [Checks the whole record](Card#what-a-call-costs).
+    ///
     /// ```
     /// use card::{Card, Device, Kind, Position, Task};
     ///
-    /// let mut card = Card::new(&Device::new(5, &[Kind::C])?);
-    /// card.place(&Task::of(Kind::C, 2), 7, Position { column: 0, bottom: 4 })?;
+    /// let mut card = Card::new(&Device::from_text(5, "C")?);
+    /// card.place(&Task::of(Kind::C, 2), 7, Position::new(0, 4))?;
     /// assert_eq!(card.interval_count(0), Ok(2));
     /// card.release(7)?;
     /// assert_eq!(card.interval_count(0), Ok(1));
@@ -56,13 +58,13 @@ impl<B: AsRef<[u8]>> Card<B> {
     /// List: all positions at which the task fits, as ranges by column and then by first.
     ///
     /// The ranges are written into the output, [`LIST_ROOM`](crate::LIST_ROOM) bytes or more,
-    /// and read from there. Refuses with −5, −6 (the output is too short) or
-    /// −9 (no position fits).
+    /// and read from there. [Checks the whole record](Card#what-a-call-costs).
+    /// Refuses with −5, −6 (the output is too short) or −9 (no position fits).
     ///
     /// ```
     /// use card::{Card, Device, Kind, Task, LIST_ROOM};
     ///
-    /// let card = Card::new(&Device::new(10, &[Kind::C, Kind::B])?);
+    /// let card = Card::new(&Device::from_text(10, "CB")?);
     /// let task = Task::builder()
     ///     .block(0, Kind::C, 0, 2)
     ///     .block(1, Kind::B, 0, 5)
@@ -87,14 +89,15 @@ impl<B: AsRef<[u8]>> Card<B> {
     /// over (n) of the intervals that it cuts, and these high (s). Of equals
     /// it is the lowest column, then the lowest bottom.
     ///
-    /// Refuses with −5 or −9 (no position fits).
+    /// [Checks the whole record](Card#what-a-call-costs) before it weighs the
+    /// positions. Refuses with −5 or −9 (no position fits).
     ///
     /// ```
     /// use card::{Card, Device, Kind, Position, Task};
     ///
-    /// let card = Card::new(&Device::new(5, &[Kind::C, Kind::B])?);
+    /// let card = Card::new(&Device::from_text(5, "CB")?);
     /// let best = card.choose(&Task::of(Kind::B, 5))?;
-    /// assert_eq!(best, Position { column: 1, bottom: 0 });
+    /// assert_eq!(best, Position::new(1, 0));
     /// # Ok::<(), card::Refusal>(())
     /// ```
     pub fn choose(&self, task: &Task) -> Result<Position, Refusal> {
@@ -103,6 +106,17 @@ impl<B: AsRef<[u8]>> Card<B> {
     }
 
     /// How many free intervals a column has; −3 where there is no such column.
+    ///
+    /// [Checks the whole record](Card#what-a-call-costs), though it reads one byte.
+    ///
+    /// ```
+    /// use card::{Card, Device, Refusal};
+    ///
+    /// let card = Card::new(&Device::from_text(5, "CB")?);
+    /// assert_eq!(card.interval_count(1), Ok(1));
+    /// assert_eq!(card.interval_count(2), Err(Refusal::DeviceOrColumn));
+    /// # Ok::<(), Refusal>(())
+    /// ```
     pub fn interval_count(&self, column: u8) -> Result<usize, Refusal> {
         let answer = bytes::interval_count(self.as_bytes(), column.into());
         outcome(answer).map(|count| count as usize)
@@ -111,11 +125,14 @@ impl<B: AsRef<[u8]>> Card<B> {
     /// The free intervals of a column, upwards, read where they stand in the
     /// record; −3 where there is no such column.
     ///
+    /// [Checks the whole record](Card#what-a-call-costs): ask once for a
+    /// column, and not once for each of its cells.
+    ///
     /// ```
     /// use card::{Card, Device, Interval, Kind, Position, Task};
     ///
-    /// let mut card = Card::new(&Device::new(5, &[Kind::C])?);
-    /// card.place(&Task::of(Kind::C, 2), 7, Position { column: 0, bottom: 4 })?;
+    /// let mut card = Card::new(&Device::from_text(5, "C")?);
+    /// card.place(&Task::of(Kind::C, 2), 7, Position::new(0, 4))?;
     /// let free: Vec<Interval> = card.intervals(0)?.collect();
     /// assert_eq!(free, [Interval { bottom: 0, top: 4 }, Interval { bottom: 6, top: 10 }]);
     /// # Ok::<(), card::Refusal>(())

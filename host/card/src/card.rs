@@ -1,10 +1,12 @@
 //! A card: one record, made anew or opened, and what it holds.
 
-use std::fmt;
+#[cfg(feature = "alloc")]
+use alloc::{boxed::Box, vec};
+use core::fmt;
 
 use crate::bytes;
-use crate::layout::{ENTRIES_AT, ENTRY_SIZE, RECORD_SIZE, RUNNING_AT};
-use crate::{outcome, Device, Refusal, RunningTasks};
+use crate::layout::{ENTRIES_AT, ENTRY_SIZE, RUNNING_AT};
+use crate::{outcome, Device, Refusal, Running, RunningTasks};
 
 /// A card: a device, the tasks that run on it, and which cells are free; kept as document 01's record.
 ///
@@ -17,10 +19,12 @@ use crate::{outcome, Device, Refusal, RunningTasks};
 /// proved library's: a refused one changes no byte, no two running tasks hold
 /// one cell, and a task is listed exactly where it fits.
 ///
+/// A card printed with `{}` is drawn.
+///
 /// ```
 /// use card::{Card, Device, Kind, Refusal, Task};
 ///
-/// let mut card = Card::new(&Device::new(5, &[Kind::C])?);
+/// let mut card = Card::new(&Device::from_text(5, "C")?);
 /// let task = Task::of(Kind::C, 4);
 /// let best = card.choose(&task)?;
 /// card.place(&task, 7, best)?;
@@ -32,17 +36,44 @@ use crate::{outcome, Device, Refusal, RunningTasks};
 /// assert_eq!(card.release(7), Err(Refusal::NotRunning));
 /// # Ok::<(), Refusal>(())
 /// ```
+///
+/// # What a call costs
+///
+/// Every call but new checks the whole record before it does anything else:
+/// it reads all bytes, makes the record of the running tasks anew, and
+/// compares the two. So even a call that asks for little is not cheap, and it
+/// costs the more the more blocks run. Don't make calls in a loop over cells or
+/// half rows: ask once for each column, and keep the answer.
+/// [`device`](Card::device), [`running`](Card::running),
+/// [`running_task`](Card::running_task), [`running_at`](Card::running_at) and
+/// the picture are no calls: they read what they need, and check nothing.
+///
+/// # Panics
+///
+/// The calls never do: where somebody else has written the bytes and they are
+/// no longer sound, they refuse. What reads the running tasks without a call
+/// ([`running`](Card::running) and the two after it, and printing) panics then.
+/// Anything may, where a `B` of one's own gives other bytes at each `as_ref`.
 #[derive(Clone)]
-pub struct Card<B = Box<[u8]>> {
+pub struct Card<#[cfg(feature = "alloc")] B = Box<[u8]>, #[cfg(not(feature = "alloc"))] B> {
     // No call changes the device, so it is read once.
     device: Device,
     pub(crate) bytes: B,
 }
 
+#[cfg(feature = "alloc")]
 impl Card {
-    /// New: a card with all cells of the device free, in bytes of its own.
+    /// New: a card with all cells of the device free, in bytes of its own. Needs the feature `alloc`.
+    ///
+    /// ```
+    /// use card::{Card, Device};
+    ///
+    /// let card = Card::new(&Device::from_text(5, "CCB")?);
+    /// assert_eq!(card.interval_count(2), Ok(1));
+    /// # Ok::<(), card::Refusal>(())
+    /// ```
     pub fn new(device: &Device) -> Card {
-        let bytes = vec![0; RECORD_SIZE].into_boxed_slice();
+        let bytes = vec![0; crate::RECORD_SIZE].into_boxed_slice();
         // Neither of new's refusals applies: the length is a record's, and a `Device` is within the limits.
         Card::new_in(bytes, device).expect("new takes every device")
     }
@@ -96,13 +127,17 @@ impl<B: AsRef<[u8]>> Card<B> {
         &self.device
     }
 
-    /// The running tasks, by rising number.
+    /// The running tasks, by rising number. No call: it reads the record, and checks nothing.
+    ///
+    /// # Panics
+    ///
+    /// Here or in the iterator, where somebody else has written the bytes and they are no longer sound.
     ///
     /// ```
     /// use card::{Card, Device, Kind, Position, Task};
     ///
     /// let mut card = Card::new(&Device::new(5, &[Kind::C])?);
-    /// let position = Position { column: 0, bottom: 4 };
+    /// let position = Position::new(0, 4);
     /// card.place(&Task::of(Kind::C, 2), 7, position)?;
     /// for running in card.running() {
     ///     assert_eq!((running.number, running.position), (7, position));
@@ -113,6 +148,49 @@ impl<B: AsRef<[u8]>> Card<B> {
         let record = self.as_bytes();
         let count = usize::from(record[RUNNING_AT]);
         RunningTasks::of(&record[ENTRIES_AT..ENTRIES_AT + ENTRY_SIZE * count])
+    }
+
+    /// The running task of a number, if it runs. No call, as [`running`](Card::running).
+    ///
+    /// # Panics
+    ///
+    /// As [`running`](Card::running).
+    ///
+    /// ```
+    /// use card::{Card, Device, Kind, Position, Task};
+    ///
+    /// let mut card = Card::new(&Device::from_text(5, "C")?);
+    /// card.place(&Task::of(Kind::C, 2), 7, Position::new(0, 4))?;
+    /// let running = card.running_task(7).expect("it runs");
+    /// assert_eq!(running.position, Position::new(0, 4));
+    /// assert_eq!(card.running_task(8), None);
+    /// # Ok::<(), card::Refusal>(())
+    /// ```
+    pub fn running_task(&self, number: u16) -> Option<Running> {
+        self.running().find(|running| running.number == number)
+    }
+
+    /// The running task that holds a half row of a column. No call, as [`running`](Card::running).
+    ///
+    /// The half row may be any of the cell's. None where the cell is free, and
+    /// where there is no cell: above the last one, or off the device.
+    ///
+    /// # Panics
+    ///
+    /// As [`running`](Card::running).
+    ///
+    /// ```
+    /// use card::{Card, Device, Kind, Position, Task};
+    ///
+    /// let mut card = Card::new(&Device::from_text(5, "C")?);
+    /// card.place(&Task::of(Kind::C, 2), 7, Position::new(0, 4))?;
+    /// let holder = |half_row| card.running_at(0, half_row).map(|running| running.number);
+    /// assert_eq!([3, 4, 5, 6].map(holder), [None, Some(7), Some(7), None]);
+    /// # Ok::<(), card::Refusal>(())
+    /// ```
+    pub fn running_at(&self, column: u8, half_row: i16) -> Option<Running> {
+        self.running()
+            .find(|running| running.holds(column, half_row))
     }
 
     /// The record's bytes, to be kept or sent; [`open`](Card::open) takes them back.

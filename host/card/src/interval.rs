@@ -1,9 +1,19 @@
 //! The free intervals of a column.
 
+use core::fmt;
+
 use crate::layout::INTERVAL_SIZE;
 use crate::parts::parts;
 
 /// A maximal run of free cells in one column, from bottom up to but not including top, in half rows.
+///
+/// ```
+/// use card::Interval;
+///
+/// let free = Interval { bottom: 4, top: 10 };
+/// assert!(free.contains(9) && !free.contains(10));
+/// assert_eq!(free.to_string(), "4 up to 10");
+/// ```
 #[derive(Clone, Copy, Debug, PartialEq, Eq, Hash)]
 pub struct Interval {
     /// The lowest half row.
@@ -27,6 +37,13 @@ impl Interval {
     /// Whether a half row is in the interval.
     pub fn contains(self, half_row: i16) -> bool {
         (self.bottom..self.top).contains(&half_row)
+    }
+}
+
+/// Shows the two half rows: `4 up to 10`.
+impl fmt::Display for Interval {
+    fn fmt(&self, f: &mut fmt::Formatter<'_>) -> fmt::Result {
+        write!(f, "{} up to {}", self.bottom, self.top)
     }
 }
 

@@ -1,6 +1,6 @@
 //! The kinds of columns.
 
-use std::fmt;
+use core::fmt;
 
 use crate::Refusal;
 

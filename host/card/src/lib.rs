@@ -16,7 +16,7 @@
 //! use card::{Card, Device, Kind, Refusal, Task, LIST_ROOM};
 //!
 //! // 5 rows; two columns of logic, one of memory.
-//! let device = Device::new(5, &[Kind::C, Kind::C, Kind::B])?;
+//! let device = Device::from_text(5, "CCB")?;
 //! let mut card = Card::new(&device);
 //!
 //! // A circuit of three blocks: column, kind, bottom and top.
@@ -29,9 +29,7 @@
 //! // Where does it fit? Only at column 0, bottom 4.
 //! let mut output = [0; LIST_ROOM];
 //! for range in card.list(&task, &mut output)? {
-//!     for position in range.positions() {
-//!         assert_eq!(position.to_string(), "column 0, bottom 4");
-//!     }
+//!     assert_eq!(range.to_string(), "column 0, bottom 4");
 //! }
 //!
 //! // Load it there as number 7. There is no position for another one.
@@ -39,35 +37,67 @@
 //! card.place(&task, 7, best)?;
 //! assert_eq!(card.choose(&task), Err(Refusal::NoPosition));
 //!
+//! // Look at the card.
+//! println!("{card}");
+//! assert_eq!(card.running_at(1, 2), card.running_task(7));
+//!
 //! // Unload it.
 //! card.release(7)?;
 //! assert_eq!(card.choose(&task), Ok(best));
 //! # Ok::<(), Refusal>(())
 //! ```
 //!
-//! `rt staticlib card`, in the root of the repository, proves and builds the
-//! library that this crate links; after that a package needs only
-//! `card = { path = "host/card" }`. `examples/first_card.rs` is a longer tour.
+//! # The archive that it links
+//!
+//! `rt staticlib card`, in the root of the repository, proves and builds
+//! `target/staticlib/libcard.a`; after that a package needs only
+//! `card = { path = "host/card" }`. Where the crate is used without that
+//! folder, as a git dependency or vendored, the environment variable
+//! `WALLARNICA_LIB_DIR` names the folder that has `libcard.a`, by its whole
+//! path; it goes before the other. `examples/first_card.rs` is a longer tour.
+//!
+//! # Without the standard library
+//!
+//! The crate uses `core` alone, and `alloc` for [`Card::new`], which owns its
+//! bytes. Without the default feature `alloc` a card is made in bytes that are
+//! lent, by [`Card::new_in`] and [`Card::open`], and nothing else is missing.
+//! The archive needs `memcpy` and `memset`.
+//!
+//! # Layers
 //!
 //! Under [`Card`] are two more layers: [`bytes`] has the same calls on byte
 //! slices with document 01's answers, and [`raw`] the functions themselves.
-//! `host/card.h` declares these for C.
+//! [`layout`] has the numbers with which these bytes are read. `host/card.h`
+//! declares all that for C.
+//!
+//! # Stack
+//!
+//! What is proved leaves out a stack that runs out. A call needs at most 36 KiB
+//! of it ([`raw::card_new`] alone 8 KiB), whatever its input; most of that is
+//! the record that a call checks the lent one against. `tests/stack` measures it.
 
+#![no_std]
 #![deny(missing_docs)]
 #![deny(unsafe_op_in_unsafe_fn)]
 #![deny(unsafe_code)]
+
+#[cfg(feature = "alloc")]
+extern crate alloc;
 
 mod builder;
 #[allow(unsafe_code)]
 pub mod bytes;
 mod calls;
 mod card;
+mod check;
 mod device;
+mod fault;
 mod interval;
 mod kind;
-mod layout;
+pub mod layout;
 mod listing;
 mod parts;
+mod picture;
 mod position;
 pub mod raw;
 mod refusal;
@@ -76,7 +106,9 @@ mod task;
 
 pub use builder::TaskBuilder;
 pub use card::Card;
+pub use check::{Broken, Rule};
 pub use device::Device;
+pub use fault::DeviceFault;
 pub use interval::{Interval, Intervals};
 pub use kind::Kind;
 pub use layout::{LIST_ROOM, MAX_BLOCKS, MAX_COLUMNS, MAX_ROWS, MAX_RUNNING, RECORD_SIZE};

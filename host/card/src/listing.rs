@@ -1,7 +1,8 @@
 //! A listing: ranges, and the positions that they name.
 
-use std::iter::{FusedIterator, StepBy};
-use std::ops::RangeInclusive;
+use core::fmt;
+use core::iter::{FusedIterator, StepBy};
+use core::ops::RangeInclusive;
 
 use crate::layout::RANGE_SIZE;
 use crate::parts::parts;
@@ -15,6 +16,10 @@ use crate::Position;
 /// let range = Range { column: 1, step: 5, first: 0, last: 10 };
 /// let bottoms: Vec<i16> = range.positions().map(|position| position.bottom).collect();
 /// assert_eq!(bottoms, [0, 5, 10]);
+/// assert_eq!(range.to_string(), "column 1, bottom 0 to 10 by 5");
+///
+/// let lone = Range { last: 0, ..range };
+/// assert_eq!(lone.to_string(), "column 1, bottom 0");
 /// ```
 #[derive(Clone, Copy, Debug, PartialEq, Eq, Hash)]
 pub struct Range {
@@ -53,6 +58,17 @@ impl Range {
     }
 }
 
+/// Shows the column, the first and last bottom and the step; of a lone position, what [`Position`] shows.
+impl fmt::Display for Range {
+    fn fmt(&self, f: &mut fmt::Formatter<'_>) -> fmt::Result {
+        write!(f, "{}", Position::new(self.column, self.first))?;
+        if self.first == self.last {
+            return Ok(());
+        }
+        write!(f, " to {} by {}", self.last, self.step)
+    }
+}
+
 parts! {
     /// The ranges of a listing, by column and then by first; read from the output that list was lent.
     Ranges of Range
@@ -68,8 +84,7 @@ pub struct Positions {
 impl Positions {
     /// The position at a bottom of the range's column.
     fn at(&self, bottom: i16) -> Position {
-        let column = self.column;
-        Position { column, bottom }
+        Position::new(self.column, bottom)
     }
 }
 

@@ -6,7 +6,7 @@ macro_rules! parts {
     ($(#[$doc:meta])* $name:ident of $item:ident) => {
         $(#[$doc])*
         #[derive(Clone)]
-        pub struct $name<'a>(std::slice::Iter<'a, [u8; $item::SIZE]>);
+        pub struct $name<'a>(core::slice::Iter<'a, [u8; $item::SIZE]>);
 
         impl<'a> $name<'a> {
             /// Over the whole parts of the bytes.
@@ -39,10 +39,10 @@ macro_rules! parts {
 
         impl ExactSizeIterator for $name<'_> {}
 
-        impl std::iter::FusedIterator for $name<'_> {}
+        impl core::iter::FusedIterator for $name<'_> {}
 
-        impl std::fmt::Debug for $name<'_> {
-            fn fmt(&self, f: &mut std::fmt::Formatter<'_>) -> std::fmt::Result {
+        impl core::fmt::Debug for $name<'_> {
+            fn fmt(&self, f: &mut core::fmt::Formatter<'_>) -> core::fmt::Result {
                 f.debug_list().entries(self.clone()).finish()
             }
         }

@@ -1,6 +1,6 @@
 //! Where a task stands.
 
-use std::fmt;
+use core::fmt;
 
 use crate::layout::COLUMN_WEIGHT;
 
@@ -9,8 +9,10 @@ use crate::layout::COLUMN_WEIGHT;
 /// ```
 /// use card::Position;
 ///
-/// let position = Position { column: 3, bottom: 10 };
+/// let position = Position::new(3, 10);
+/// assert_eq!(position, Position { column: 3, bottom: 10 });
 /// assert_eq!(position.to_string(), "column 3, bottom 10");
+/// assert!(Position::new(2, 200) < position);
 /// ```
 #[derive(Clone, Copy, Debug, PartialEq, Eq, PartialOrd, Ord, Hash)]
 pub struct Position {
@@ -21,13 +23,18 @@ pub struct Position {
 }
 
 impl Position {
+    /// The position at a column and a bottom; whether a task fits there is judged by the calls.
+    pub const fn new(column: u8, bottom: i16) -> Position {
+        Position { column, bottom }
+    }
+
     /// The position that choose answers.
     pub(crate) fn of_answer(answer: u32) -> Position {
         // A device has at most 64 columns and 256 half rows, so both casts keep the value.
-        Position {
-            column: (answer / COLUMN_WEIGHT) as u8,
-            bottom: (answer % COLUMN_WEIGHT) as i16,
-        }
+        Position::new(
+            (answer / COLUMN_WEIGHT) as u8,
+            (answer % COLUMN_WEIGHT) as i16,
+        )
     }
 }
 

@@ -1,6 +1,6 @@
 //! The refusals of document 01's table.
 
-use std::fmt;
+use core::fmt;
 
 /// Why a call did nothing; the discriminant is the number that document 01's table returns for it.
 ///
@@ -99,7 +99,7 @@ impl fmt::Display for Refusal {
     }
 }
 
-impl std::error::Error for Refusal {}
+impl core::error::Error for Refusal {}
 
 /// The answer of a call of [`bytes`](crate::bytes) as what it gives, or its refusal.
 ///

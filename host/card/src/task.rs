@@ -1,8 +1,8 @@
 //! Tasks and their blocks.
 
-use std::fmt;
+use core::fmt;
 
-use crate::layout::{BLOCK_SIZE, MAX_BLOCKS};
+use crate::layout::{BLOCK_KIND_AT, BLOCK_SIZE, MAX_BLOCKS};
 use crate::parts::parts;
 use crate::{Kind, Refusal, TaskBuilder};
 
@@ -10,6 +10,13 @@ use crate::{Kind, Refusal, TaskBuilder};
 pub(crate) const TASK_SIZE: usize = MAX_BLOCKS * BLOCK_SIZE;
 
 /// A block of a task: whole cells, one above the other, in one column.
+///
+/// ```
+/// use card::{Block, Kind};
+///
+/// let block = Block { column: 2, kind: Kind::B, bottom: 1, top: 6 };
+/// assert_eq!(block.to_string(), "column 2: B 1 up to 6");
+/// ```
 #[derive(Clone, Copy, Debug, PartialEq, Eq, Hash)]
 pub struct Block {
     /// The column, relative to the task's first.
@@ -45,6 +52,19 @@ impl Block {
     }
 }
 
+/// Shows the column, the kind and the half rows.
+impl fmt::Display for Block {
+    fn fmt(&self, f: &mut fmt::Formatter<'_>) -> fmt::Result {
+        let Block {
+            column,
+            kind,
+            bottom,
+            top,
+        } = self;
+        write!(f, "column {column}: {kind} {bottom} up to {top}")
+    }
+}
+
 parts! {
     /// The blocks of a task, in their order.
     Blocks of Block
@@ -56,7 +76,7 @@ parts! {
 /// blocks, so no call refuses it with −4. Whether it is well-formed (the first
 /// block at column 0 and bottom 0, columns that never fall, a gap between
 /// blocks of one column, whole cells) is not judged here: the proved library
-/// judges it at each call, and refuses with −5.
+/// judges it at each call, and refuses with −5. [`check`](Task::check) says why.
 ///
 /// ```
 /// use card::{Kind, Task};
@@ -73,6 +93,10 @@ parts! {
 /// assert_eq!(one.as_bytes(), [0, 0, 0, 0, 4, 0]);
 /// assert_eq!(three.blocks().len(), 3);
 /// assert!(three.blocks().any(|block| block.kind == Kind::B));
+/// assert_eq!(
+///     three.to_string(),
+///     "column 0: C 0 up to 2; column 1: C -2 up to 2; column 2: B 1 up to 6"
+/// );
 /// # Ok::<(), card::Refusal>(())
 /// ```
 #[derive(Clone, Copy, PartialEq, Eq, Hash)]
@@ -102,6 +126,13 @@ impl Task {
     }
 
     /// The task of these blocks; −4 where there are none or over 32.
+    ///
+    /// ```
+    /// use card::{Block, Kind, Task};
+    ///
+    /// let block = Block { column: 0, kind: Kind::C, bottom: 0, top: 4 };
+    /// assert_eq!(Task::from_blocks(&[block]), Ok(Task::of(Kind::C, 4)));
+    /// ```
     pub fn from_blocks(blocks: &[Block]) -> Result<Task, Refusal> {
         let add = |task: TaskBuilder, block: &Block| {
             task.block(block.column, block.kind, block.bottom, block.top)
@@ -125,7 +156,7 @@ impl Task {
         }
         if blocks
             .iter()
-            .any(|block| Kind::from_byte(block[1]).is_none())
+            .any(|block| Kind::from_byte(block[BLOCK_KIND_AT]).is_none())
         {
             return Err(Refusal::TaskNotWellFormed);
         }
@@ -154,5 +185,16 @@ impl Task {
 impl fmt::Debug for Task {
     fn fmt(&self, f: &mut fmt::Formatter<'_>) -> fmt::Result {
         f.debug_tuple("Task").field(&self.blocks()).finish()
+    }
+}
+
+/// Shows the blocks in their order, parted by `; `.
+impl fmt::Display for Task {
+    fn fmt(&self, f: &mut fmt::Formatter<'_>) -> fmt::Result {
+        for (index, block) in self.blocks().enumerate() {
+            let gap = if index == 0 { "" } else { "; " };
+            write!(f, "{gap}{block}")?;
+        }
+        Ok(())
     }
 }

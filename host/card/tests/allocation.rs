@@ -2,6 +2,7 @@
 
 use std::alloc::{GlobalAlloc, Layout, System};
 use std::cell::Cell;
+use std::io::{Cursor, Write};
 
 use card::{Card, Device, Kind, Task, LIST_ROOM, RECORD_SIZE};
 
@@ -41,12 +42,13 @@ fn asked<T>(work: impl FnOnce() -> T) -> usize {
 
 /// Every call, and everything that is read from a card.
 fn all_calls(record: &mut [u8], output: &mut [u8]) -> Option<usize> {
-    let device = Device::new(128, &[Kind::C, Kind::B, Kind::C]).ok()?;
+    let device = Device::from_text(128, "CBC").ok()?;
     let mut card = Card::new_in(record, &device).ok()?;
     let task = Task::builder()
         .block(0, Kind::C, 0, 2)
         .block(1, Kind::B, -5, 5);
     let task = task.build().ok()?;
+    task.check().ok()?;
     let mut seen = 0;
     for number in 1..=10 {
         let best = card.choose(&task).ok()?;
@@ -55,6 +57,9 @@ fn all_calls(record: &mut [u8], output: &mut [u8]) -> Option<usize> {
         let ranges = card.list(&task, output).ok()?;
         seen += ranges.flat_map(|range| range.positions()).count();
         seen += card.intervals(1).ok()?.count();
+        seen += card.running_task(number)?.task.blocks().len();
+        card.running_at(best.column, best.bottom)?;
+        write!(Cursor::new(&mut *output), "{card}").ok()?;
     }
     let running = card.running().map(|running| running.task.blocks().len());
     seen += running.sum::<usize>();

@@ -1,12 +1,15 @@
 //! Cards in bytes of their own and in bytes that are lent, and what can be read from them.
 
-use card::{bytes, Card, Device, Interval, Kind, Position, Range, Running, Task};
-use card::{LIST_ROOM, RECORD_SIZE};
+use std::cell::Cell;
+use std::panic::{catch_unwind, AssertUnwindSafe};
 
-const AT_FOUR: Position = Position {
-    column: 0,
-    bottom: 4,
+use card::layout::RUNNING_AT;
+use card::{
+    bytes, Card, Device, DeviceFault, Interval, Kind, Position, Range, Refusal, Running, Task,
 };
+use card::{LIST_ROOM, MAX_COLUMNS, RECORD_SIZE};
+
+const AT_FOUR: Position = Position::new(0, 4);
 
 /// Document 01's example: 5 rows, CCB.
 fn device() -> Device {
@@ -149,4 +152,82 @@ fn cells_of_a_column() {
     assert_eq!(device.kind(3), None);
     let letters: String = device.kinds().iter().map(|kind| kind.letter()).collect();
     assert_eq!(letters, "CBD");
+}
+
+#[test]
+fn devices_from_a_text() {
+    let wanted = Device::new(128, &Kind::ALL).map_err(|_| DeviceFault::Rows(128));
+    assert_eq!(Device::from_text(128, "CBD"), wanted);
+    let widest = Device::from_text(1, &"D".repeat(MAX_COLUMNS)).expect("64 columns");
+    assert_eq!(widest.kinds(), [Kind::D; MAX_COLUMNS]);
+    let fault = |rows, kinds: &str| Device::from_text(rows, kinds).expect_err("a fault");
+    let letter = |column, letter| DeviceFault::Letter { column, letter };
+    // The rows go first, then the number of letters, then the letters.
+    assert_eq!(fault(0, "X"), DeviceFault::Rows(0));
+    assert_eq!(fault(129, ""), DeviceFault::Rows(129));
+    assert_eq!(fault(128, ""), DeviceFault::Columns(0));
+    assert_eq!(fault(1, &"é".repeat(65)), DeviceFault::Columns(65));
+    assert_eq!(fault(1, &"é".repeat(64)), letter(0, 'é'));
+    assert_eq!(fault(1, "CcB"), letter(1, 'c'));
+    assert_eq!(fault(1, "CB "), letter(2, ' '));
+    assert_eq!(fault(1, "0"), letter(0, '0'));
+    let shown = [fault(129, "C"), fault(1, ""), fault(1, "C\n")].map(|fault| fault.to_string());
+    assert_eq!(
+        shown[..2],
+        ["129 rows, not 1 to 128", "0 columns, not 1 to 64"]
+    );
+    assert_eq!(shown[2], "column 1 is '\\n', which is none of C, B and D");
+}
+
+#[test]
+fn a_running_task_with_fields_that_no_card_has() {
+    let far = Running {
+        number: 0,
+        position: Position::new(255, i16::MAX),
+        task: Task::of(Kind::C, i16::MAX),
+    };
+    assert!(far.holds(255, i16::MAX) && !far.holds(255, i16::MIN) && !far.holds(0, i16::MAX));
+}
+
+/// A record that somebody else writes while a card has it.
+struct Written<'a> {
+    before: &'a [u8],
+    after: &'a [u8],
+    is_written: &'a Cell<bool>,
+}
+
+impl AsRef<[u8]> for Written<'_> {
+    fn as_ref(&self) -> &[u8] {
+        match self.is_written.get() {
+            true => self.after,
+            false => self.before,
+        }
+    }
+}
+
+#[test]
+fn bytes_that_somebody_else_wrote() {
+    let before = Card::new(&device()).into_bytes();
+    // More than 64 tasks, and one without a block.
+    for count in [65, 1] {
+        let mut after = before.clone();
+        after[RUNNING_AT] = count;
+        let is_written = Cell::new(false);
+        let card = Card::open(Written {
+            before: &before,
+            after: &after,
+            is_written: &is_written,
+        });
+        let card = card.expect("a sound record");
+        is_written.set(true);
+        // The calls refuse such bytes; what reads the running tasks panics, as it says.
+        let refused = Some(Refusal::RecordNotSound);
+        assert_eq!(card.choose(&three_blocks()).err(), refused);
+        assert_eq!(card.intervals(0).err(), refused);
+        let panics = |read: &dyn Fn() -> bool| catch_unwind(AssertUnwindSafe(read)).is_err();
+        assert!(panics(&|| card.running().next().is_some()));
+        assert!(panics(&|| card.running_task(7).is_some()));
+        assert!(panics(&|| card.running_at(0, 4).is_some()));
+        assert!(panics(&|| card.to_string().is_empty()));
+    }
 }

@@ -1,4 +1,4 @@
-/* Document 01's example through card.h, then the header's constants; compiled as C and as C++. */
+/* Document 01's example through card.h, with what stands in the record; parts of length 0; the header's enumerators. Compiled as C and as C++. */
 #include <stdio.h>
 #include <string.h>
 
@@ -12,13 +12,55 @@ static int two_bytes(const uint8_t *at) {
     return at[0] | at[1] << 8;
 }
 
+/* The same, signed: two's complement. */
+static int signed_bytes(const uint8_t *at) {
+    int value = two_bytes(at);
+    return value < 0x8000 ? value : value - 0x10000;
+}
+
+/* Prints a column's free intervals, read from the record itself. */
+static void show_intervals(int column) {
+    const uint8_t *interval = record + CARD_INTERVALS_AT + CARD_COLUMN_SIZE * column;
+    printf("column %d, kind %d:", column, record[CARD_KINDS_AT + column]);
+    for (int i = 0; i < record[CARD_COUNTS_AT + column]; i++) {
+        printf(" %d-%d", two_bytes(interval + CARD_INTERVAL_BOTTOM_AT), two_bytes(interval + CARD_INTERVAL_TOP_AT));
+        interval += CARD_INTERVAL_SIZE;
+    }
+    printf("\n");
+}
+
+/* Prints a running task with its blocks. */
+static void show_entry(const uint8_t *entry) {
+    const uint8_t *block = entry + CARD_BLOCKS_AT;
+    printf("task %d at column %d bottom %d:", two_bytes(entry + CARD_ENTRY_NUMBER_AT), entry[CARD_ENTRY_COLUMN_AT],
+           two_bytes(entry + CARD_ENTRY_BOTTOM_AT));
+    for (int i = 0; i < entry[CARD_ENTRY_COUNT_AT]; i++) {
+        printf(" %d,%d,%d,%d", block[CARD_BLOCK_COLUMN_AT], block[CARD_BLOCK_KIND_AT],
+               signed_bytes(block + CARD_BLOCK_BOTTOM_AT), signed_bytes(block + CARD_BLOCK_TOP_AT));
+        block += CARD_BLOCK_SIZE;
+    }
+    printf("\n");
+}
+
+/* Prints the whole card. A call that answered 0 has left the record sound, so it can be read as it stands. */
+static void show_card(void) {
+    printf("%d rows\n", two_bytes(record + CARD_ROWS_AT));
+    for (int column = 0; column < record[CARD_COLUMNS_AT]; column++) {
+        show_intervals(column);
+    }
+    for (int j = 0; j < record[CARD_RUNNING_AT]; j++) {
+        show_entry(record + CARD_ENTRIES_AT + CARD_ENTRY_SIZE * j);
+    }
+}
+
 /* Lists a task and prints the answer and each range. */
 static void list(const uint8_t *task, size_t task_len) {
     int32_t answer = card_list(record, sizeof record, task, task_len, output, sizeof output);
     printf("list %d\n", (int)answer);
     for (int32_t i = 0; i < answer; i++) {
         const uint8_t *range = output + CARD_RANGE_SIZE * i;
-        printf("  column %d first %d last %d\n", range[0], two_bytes(range + 2), two_bytes(range + 4));
+        printf("  column %d first %d step %d last %d\n", range[CARD_RANGE_COLUMN_AT],
+               two_bytes(range + CARD_RANGE_FIRST_AT), range[CARD_RANGE_STEP_AT], two_bytes(range + CARD_RANGE_LAST_AT));
     }
 }
 
@@ -45,20 +87,37 @@ static void example(void) {
     list(tall, sizeof tall);
     choose(tall, sizeof tall);
     choose(memory, sizeof memory);
+    printf("place %d\n", (int)card_place(record, sizeof record, tall, sizeof tall, 8, 0, 0));
+    show_card();
     printf("intervals %d\n", (int)card_interval_count(record, sizeof record, 0));
-    printf("release %d\n", (int)card_release(record, sizeof record, 8));
+    printf("release %d\n", (int)card_release(record, sizeof record, 9));
     printf("release %d\n", (int)card_release(record, sizeof record, 7));
+    show_card();
+}
+
+/* Each part in its turn is NULL and has length 0. */
+static void null_parts(void) {
+    const uint8_t kinds[] = {CARD_KIND_C};
+    const uint8_t task[CARD_BLOCK_SIZE] = {0, CARD_KIND_C, 0, 0, 2, 0};
+
+    printf("new, record %d\n", (int)card_new(NULL, 0, 5, kinds, sizeof kinds));
+    printf("new, kinds %d\n", (int)card_new(record, sizeof record, 5, NULL, 0));
+    printf("new %d\n", (int)card_new(record, sizeof record, 5, kinds, sizeof kinds));
+    printf("place, record %d\n", (int)card_place(NULL, 0, task, sizeof task, 7, 0, 0));
+    printf("place, task %d\n", (int)card_place(record, sizeof record, NULL, 0, 7, 0, 0));
+    printf("release, record %d\n", (int)card_release(NULL, 0, 7));
+    printf("list, record %d\n", (int)card_list(NULL, 0, task, sizeof task, output, sizeof output));
+    printf("list, task %d\n", (int)card_list(record, sizeof record, NULL, 0, output, sizeof output));
+    printf("list, output %d\n", (int)card_list(record, sizeof record, task, sizeof task, NULL, 0));
+    printf("choose, record %d\n", (int)card_choose(NULL, 0, task, sizeof task));
+    printf("choose, task %d\n", (int)card_choose(record, sizeof record, NULL, 0));
+    printf("intervals, record %d\n", (int)card_interval_count(NULL, 0, 0));
+    printf("all of list %d\n", (int)card_list(NULL, 0, NULL, 0, NULL, 0));
 }
 
 #define SHOW(name) printf(#name " %d\n", (int)name)
 
-static void constants(void) {
-    SHOW(CARD_RECORD_SIZE);
-    SHOW(CARD_LIST_ROOM);
-    SHOW(CARD_MAX_ROWS);
-    SHOW(CARD_MAX_COLUMNS);
-    SHOW(CARD_MAX_BLOCKS);
-    SHOW(CARD_MAX_RUNNING);
+static void enumerators(void) {
     SHOW(CARD_KIND_C);
     SHOW(CARD_KIND_B);
     SHOW(CARD_KIND_D);
@@ -77,8 +136,10 @@ static void constants(void) {
 }
 
 int main(int count, char **words) {
-    if (count == 2 && strcmp(words[1], "constants") == 0) {
-        constants();
+    if (count == 2 && strcmp(words[1], "enumerators") == 0) {
+        enumerators();
+    } else if (count == 2 && strcmp(words[1], "null-parts") == 0) {
+        null_parts();
     } else {
         example();
     }

@@ -8,18 +8,46 @@ use card::{Kind, Refusal};
 const EXAMPLE: &str = "\
 new 0
 list 1
-  column 0 first 4 last 4
+  column 0 first 4 step 10 last 4
 place 0
 list -9
 list 3
-  column 0 first 0 last 0
-  column 0 first 6 last 6
-  column 1 first 6 last 6
+  column 0 first 0 step 2 last 0
+  column 0 first 6 step 2 last 6
+  column 1 first 6 step 2 last 6
 choose column 0 bottom 0
 choose column 2 bottom 0
-intervals 2
+place 0
+5 rows
+column 0, kind 0: 6-10
+column 1, kind 0: 0-2 6-10
+column 2, kind 1: 0-5
+task 7 at column 0 bottom 4: 0,0,0,2 1,0,-2,2 2,1,1,6
+task 8 at column 0 bottom 0: 0,0,0,4
+intervals 1
 release -11
 release 0
+5 rows
+column 0, kind 0: 4-10
+column 1, kind 0: 0-10
+column 2, kind 1: 0-10
+task 8 at column 0 bottom 0: 0,0,0,4
+";
+
+const NULL_PARTS: &str = "\
+new, record -1
+new, kinds -3
+new 0
+place, record -1
+place, task -4
+release, record -1
+list, record -1
+list, task -4
+list, output -6
+choose, record -1
+choose, task -4
+intervals, record -1
+all of list -1
 ";
 
 const WARNINGS: [&str; 4] = ["-Wall", "-Wextra", "-Werror", "-pedantic"];
@@ -36,7 +64,7 @@ fn build(compiler: &str, language: [&str; 2], name: &str) -> PathBuf {
         .arg(package.join("tests/header.c"))
         // From here on files are no longer taken for that language.
         .args(["-x", "none"])
-        .arg(package.join("../../target/staticlib/libcard.a"))
+        .arg(env!("CARD_ARCHIVE"))
         .arg("-o")
         .arg(&program)
         .output()
@@ -67,25 +95,20 @@ fn the_example_through_c_plus_plus() {
 }
 
 #[test]
-fn the_constants_are_those_of_rust() {
-    let program = build("gcc", ["-std=c99", "-xc"], "header-constants");
-    let text = printed(&program, &["constants"]);
-    let mut wanted = vec![
-        ("CARD_RECORD_SIZE".to_string(), card::RECORD_SIZE as i32),
-        ("CARD_LIST_ROOM".to_string(), card::LIST_ROOM as i32),
-        ("CARD_MAX_ROWS".to_string(), card::MAX_ROWS.into()),
-        ("CARD_MAX_COLUMNS".to_string(), card::MAX_COLUMNS as i32),
-        ("CARD_MAX_BLOCKS".to_string(), card::MAX_BLOCKS as i32),
-        ("CARD_MAX_RUNNING".to_string(), card::MAX_RUNNING as i32),
-    ];
-    wanted.extend(Kind::ALL.map(|kind| (format!("CARD_KIND_{kind}"), kind.byte().into())));
-    wanted.extend(Refusal::ALL.map(|refusal| (constant(refusal), refusal.number())));
-    let found: Vec<String> = text.lines().map(str::to_string).collect();
-    let wanted: Vec<String> = wanted
-        .iter()
-        .map(|(name, value)| format!("{name} {value}"))
-        .collect();
-    assert_eq!(found, wanted);
+fn a_part_of_length_0_may_be_null() {
+    let program = build("gcc", ["-std=c99", "-xc"], "header-null-parts");
+    assert_eq!(printed(&program, &["null-parts"]), NULL_PARTS);
+}
+
+#[test]
+fn the_enumerators_are_those_of_rust() {
+    let program = build("gcc", ["-std=c99", "-xc"], "header-enumerators");
+    let text = printed(&program, &["enumerators"]);
+    let kinds = Kind::ALL.map(|kind| format!("CARD_KIND_{kind} {}", kind.byte()));
+    let refusals =
+        Refusal::ALL.map(|refusal| format!("{} {}", constant(refusal), refusal.number()));
+    let found: Vec<&str> = text.lines().collect();
+    assert_eq!(found, [&kinds[..], &refusals[..]].concat());
 }
 
 /// The header's name of a refusal: `OutputShort` is `CARD_OUTPUT_SHORT`.
