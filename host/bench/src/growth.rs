@@ -4,84 +4,93 @@ use calls::SUBJECTS;
 
 use crate::loads::{busy, empty, mixed_probe, wide_probe, Load, Probe};
 use crate::measure::Effort;
+use crate::names;
 use crate::rows::{change_rows, search_rows, simple_rows, Row};
+use crate::run::{figures, Figure};
+use crate::summary::{Line, Summary};
 
-/// One measured point.
+/// What grows: each is a part of a run.
+pub const SERIES: [&str; 3] = ["tasks", "blocks", "rows"];
+
+/// One point of a line.
+#[derive(Clone, Debug, PartialEq)]
 pub struct Point {
-    /// What grows: "tasks", "blocks" or "rows".
-    pub series: &'static str,
+    /// What grows.
+    pub series: String,
     /// How many there are.
     pub amount: usize,
     /// The call.
     pub call: String,
     /// The implementation.
-    pub implementation: &'static str,
+    pub implementation: String,
     /// The time in ns.
     pub ns: f64,
 }
 
 /// Measures all calls for one amount.
-fn points(
-    series: &'static str,
+fn measure_amount(
+    series: &str,
     amount: usize,
     load: &Load,
     probe: &Probe,
     effort: Effort,
-) -> Vec<Point> {
+) -> Vec<Figure> {
     let mut rows = simple_rows(load, effort);
     rows.extend(change_rows(load, probe, effort));
     rows.extend(search_rows(load, probe, effort));
+    let amount = amount.to_string();
     rows.into_iter()
-        .flat_map(|row| points_of(series, amount, row))
+        .flat_map(|row| figures(series, &amount, &without_task(row), &[]))
         .collect()
 }
 
-/// The points of a row: one for each implementation.
-fn points_of(series: &'static str, amount: usize, row: Row) -> Vec<Point> {
-    // The table names the task too; here the amount says it.
+/// A row that names the call alone: the amount says the task.
+fn without_task(row: Row) -> Row {
     let call = row.call.split(',').next().unwrap_or_default().to_string();
-    let names = SUBJECTS.iter().map(|subject| subject.name());
-    let times = names.zip(row.subjects);
-    let matrix = row.matrix.map(|time| ("matrix", time));
-    let point = |(implementation, ns)| Point {
-        series,
-        amount,
-        call: call.clone(),
-        implementation,
-        ns,
-    };
-    times.chain(matrix).map(point).collect()
+    Row { call, ..row }
 }
 
 /// Measures all three.
-pub fn measure(effort: Effort) -> Vec<Point> {
+pub fn measure(effort: Effort) -> Vec<Figure> {
+    let [by_tasks, by_blocks, by_rows] = SERIES;
     let subject = SUBJECTS[0];
     let probe = mixed_probe();
     let mut all = Vec::new();
     for tasks in (0..=56).step_by(8) {
         let load = busy(subject, tasks);
-        all.extend(points("tasks", tasks, &load, &probe, effort));
+        all.extend(measure_amount(by_tasks, tasks, &load, &probe, effort));
     }
     let load = empty(subject, 128);
     for blocks in [1, 2, 4, 8, 12, 16, 20, 24, 28, 32] {
         let probe = wide_probe(blocks);
-        all.extend(points("blocks", blocks, &load, &probe, effort));
+        all.extend(measure_amount(by_blocks, blocks, &load, &probe, effort));
     }
     for rows in [16, 24, 32, 48, 64, 80, 96, 112, 128] {
         let load = empty(subject, rows);
-        all.extend(points("rows", rows as usize, &load, &probe, effort));
+        all.extend(measure_amount(
+            by_rows,
+            rows as usize,
+            &load,
+            &probe,
+            effort,
+        ));
     }
     all
 }
 
-/// The points as comma-separated values.
-pub fn csv(points: &[Point]) -> String {
-    let mut text = "series,amount,call,implementation,ns\n".to_string();
-    for point in points {
-        text += &format!(
-            "{},{},{},{},{:.0}\n",
-            point.series, point.amount, point.call, point.implementation, point.ns
-        );
-    }
-    text
+/// The points of one series: the medians over the runs.
+pub fn points(summary: &Summary, series: &str) -> Vec<Point> {
+    let lines = summary.lines.iter().filter(|line| line.key.part == series);
+    let point = |line: &Line| {
+        let (implementation, _) = line.key.name.split_once(' ')?;
+        (implementation != names::MEMCMP).then_some(())?;
+        Some(Point {
+            series: series.into(),
+            amount: line.key.load.parse().ok()?,
+            call: line.key.call.clone(),
+            implementation: implementation.into(),
+            ns: line.spread().median,
+        })
+    };
+    lines.filter_map(point).collect()
 }

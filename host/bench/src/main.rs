@@ -1,56 +1,34 @@
-//! Measures the calls on an empty card, a busy card and a card full of combs.
+//! The benchmark.
 //!
-//!     bench [--quick] [--growth DIRECTORY]
+//!     bench run [--quick] FOLDER    measures, and stores the run in FOLDER/performance under the next number
+//!     bench document FOLDER         makes the tables of FOLDER/PERFORMANCE.md and the plot from all stored runs
 //!
-//! It prints a Markdown table of times and ratios, all from one run. With
-//! `--growth` it also measures how times grow with tasks, blocks and rows, and
-//! writes growth.csv and growth.svg into the directory.
+//! A run takes about a minute, and is made with `--release`. `--quick` makes fewer rounds, for a try.
 
 #![deny(missing_docs)]
 #![forbid(unsafe_code)]
 
-mod growth;
-mod loads;
-mod measure;
-mod plot;
-mod rows;
-mod table;
-
-use std::path::{Path, PathBuf};
+use std::error::Error;
+use std::path::Path;
 use std::process::ExitCode;
-use std::time::Duration;
-use std::{env, fs, io};
+use std::time::{Duration, Instant};
+use std::{env, fs};
 
+use bench::clock::processor_time;
+use bench::loads::{self, Load};
+use bench::measure::Effort;
+use bench::names::{CALLS, CALL_RATIOS, SEARCHES, SEARCH_RATIOS};
+use bench::run::{figures, About, Figure, Run};
+use bench::summary::Summary;
+use bench::{document, growth, machine, plot, rows, run};
 use calls::SUBJECTS;
-use loads::Load;
-use measure::Effort;
 
-/// What the command line asks for.
-struct Wish {
-    effort: Effort,
-    growth: Option<PathBuf>,
-}
-
-/// Reads the command line; none where it is not of the form above.
-fn wish() -> Option<Wish> {
-    let mut wish = Wish {
-        effort: Effort {
-            batches: 101,
-            // Shorter than a time slice, so that most batches run undisturbed on a busy machine.
-            batch: Duration::from_micros(200),
-        },
-        growth: None,
-    };
-    let mut words = env::args().skip(1);
-    while let Some(word) = words.next() {
-        match word.as_str() {
-            "--quick" => wish.effort.batches = 21,
-            "--growth" => wish.growth = Some(words.next()?.into()),
-            _ => return None,
-        }
-    }
-    Some(wish)
-}
+/// How many rounds a row has.
+const ROUNDS: usize = 301;
+/// How many it has when only trying.
+const QUICK_ROUNDS: usize = 11;
+/// Four turns are shorter than a time slice, so that most rounds are not broken off.
+const TURN: Duration = Duration::from_micros(200);
 
 /// The four loads; every implementation must come to the same records.
 fn loads() -> Vec<Load> {
@@ -71,50 +49,94 @@ fn loads() -> Vec<Load> {
     loads.into()
 }
 
-/// Measures the loads and prints the tables.
-fn print_tables(effort: Effort) {
-    let loads = loads();
+/// Measures every call on every load.
+fn measure_calls(effort: Effort) -> Vec<Figure> {
     let probes = [loads::mixed_probe(), loads::comb_probe()];
-    let memcmp = rows::memcmp(&loads[0], effort);
-    let mut rows = Vec::new();
-    let mut searches = Vec::new();
-    for load in &loads {
-        rows.extend(rows::simple_rows(load, effort));
+    let mut all = Vec::new();
+    for load in &loads() {
+        let mut calls = rows::simple_rows(load, effort);
         for probe in &probes {
-            rows.extend(rows::change_rows(load, probe, effort));
-            rows.extend(rows::search_rows(load, probe, effort));
-            let alone = rows::search_alone(load, probe, effort);
-            searches.extend(
-                alone.map(|(call, plain, matrix)| (load.name.clone(), call, plain, matrix)),
-            );
+            calls.extend(rows::change_rows(load, probe, effort));
+            calls.extend(rows::search_rows(load, probe, effort));
+        }
+        for row in calls {
+            all.extend(figures(CALLS, &load.name, &row, &CALL_RATIOS));
         }
     }
-    println!("memcmp of a record's 29,188 bytes: {memcmp:.0} ns\n");
-    println!("{}", table::table(&rows, memcmp));
-    println!("{}", table::search_table(&searches));
+    all
 }
 
-/// Measures growth and writes both files.
-fn write_growth(directory: &Path, effort: Effort) -> io::Result<()> {
-    fs::create_dir_all(directory)?;
-    let points = growth::measure(effort);
-    fs::write(directory.join("growth.csv"), growth::csv(&points))?;
-    fs::write(directory.join("growth.svg"), plot::svg(&points))
+/// Measures every search on every load.
+fn measure_searches(effort: Effort) -> Vec<Figure> {
+    let probes = [loads::mixed_probe(), loads::comb_probe()];
+    let mut all = Vec::new();
+    for load in &loads() {
+        let rows = probes
+            .iter()
+            .flat_map(|probe| rows::search_alone(load, probe, effort));
+        for row in rows {
+            all.extend(figures(SEARCHES, &load.name, &row, &SEARCH_RATIOS));
+        }
+    }
+    all
+}
+
+/// Makes a run: all that is measured, with what it was measured with.
+fn make_run(effort: Effort) -> Result<Run, String> {
+    let mut about = About::from([
+        ("compiler".into(), machine::compiler().into()),
+        ("kit".into(), machine::kit()?),
+        ("processor".into(), machine::processor()?),
+        ("rounds".into(), effort.rounds.to_string()),
+    ]);
+    let (start, start_on_processor) = (Instant::now(), processor_time());
+    let mut figures = measure_calls(effort);
+    figures.extend(measure_searches(effort));
+    figures.extend(growth::measure(effort));
+    let on_processor = processor_time() - start_on_processor;
+    let share = on_processor.as_secs_f64() / start.elapsed().as_secs_f64();
+    about.insert(
+        "time on a processor".into(),
+        format!("{:.0} %", 100.0 * share),
+    );
+    Ok(Run { about, figures })
+}
+
+/// Makes a run and stores it.
+fn store_run(folder: &Path, rounds: usize) -> Result<(), Box<dyn Error>> {
+    if cfg!(debug_assertions) {
+        return Err("a run is made with --release".into());
+    }
+    let effort = Effort { rounds, turn: TURN };
+    let path = run::store(&folder.join("performance"), &make_run(effort)?)?;
+    println!("{}", path.display());
+    Ok(())
+}
+
+/// Makes the document and the plot anew.
+fn write_document(folder: &Path) -> Result<(), Box<dyn Error>> {
+    let runs = folder.join("performance");
+    let summary = Summary::of(run::stored(&runs)?)?;
+    let path = folder.join("PERFORMANCE.md");
+    let text = document::filled(&fs::read_to_string(&path)?, &summary)?;
+    fs::write(path, text)?;
+    fs::write(runs.join("growth.svg"), plot::svg(&summary))?;
+    Ok(())
 }
 
 fn main() -> ExitCode {
-    let Some(wish) = wish() else {
-        eprintln!("usage: bench [--quick] [--growth DIRECTORY]");
-        return ExitCode::from(2);
+    let words: Vec<String> = env::args().skip(1).collect();
+    let words: Vec<&str> = words.iter().map(String::as_str).collect();
+    let done = match words[..] {
+        ["run", folder] => store_run(folder.as_ref(), ROUNDS),
+        ["run", "--quick", folder] => store_run(folder.as_ref(), QUICK_ROUNDS),
+        ["document", folder] => write_document(folder.as_ref()),
+        _ => Err("usage: bench run [--quick] FOLDER | bench document FOLDER".into()),
     };
-    print_tables(wish.effort);
-    let Some(directory) = wish.growth else {
-        return ExitCode::SUCCESS;
-    };
-    match write_growth(&directory, wish.effort) {
+    match done {
         Ok(()) => ExitCode::SUCCESS,
         Err(fault) => {
-            eprintln!("bench: {}: {fault}", directory.display());
+            eprintln!("bench: {fault}");
             ExitCode::FAILURE
         }
     }

@@ -1,88 +1,136 @@
-//! Times of calls: the median over batches that take turns, so that a busy machine slows all alike.
+//! Times of works, in processor time of this thread, in short rounds.
+//!
+//! In a round every work is measured once, for a fraction of a millisecond, and each round begins
+//! with another work. A ratio is taken within a round, and a row's figure is the median over the
+//! rounds: what slows the machine for longer than a round slows both sides of the ratio, and what
+//! is shorter spoils some rounds, for either side, which the median leaves out.
 
+use std::collections::BTreeMap;
 use std::hint::black_box;
-use std::time::{Duration, Instant};
+use std::sync::OnceLock;
+use std::time::Duration;
 
-/// Something to measure: runs so many times and answers the time of the measured part.
-pub type Work<'a> = Box<dyn FnMut(u32) -> Duration + 'a>;
+use crate::clock::processor_time;
+
+/// Something to measure: runs so many times and answers the time of one run of the measured part, in ns.
+pub type Work<'a> = Box<dyn FnMut(u32) -> f64 + 'a>;
+
+/// A work under the name of what it measures.
+pub type Named<'a> = (&'static str, Work<'a>);
+
+/// The times of each work in ns, by name, one for each round.
+pub type Samples = BTreeMap<&'static str, Vec<f64>>;
 
 /// How long is measured.
-#[derive(Clone, Copy)]
+#[derive(Clone, Copy, Debug)]
 pub struct Effort {
-    /// How many batches of each.
-    pub batches: usize,
-    /// How long a batch takes, about.
-    pub batch: Duration,
+    /// How many rounds there are.
+    pub rounds: usize,
+    /// How long a work takes in a round, about.
+    pub turn: Duration,
+}
+
+/// How often the clock is read to learn what a reading costs.
+const READINGS: usize = 1001;
+
+/// What reading the clock costs, in ns.
+fn reading_cost() -> f64 {
+    static COST: OnceLock<f64> = OnceLock::new();
+    let reading = |_| {
+        let start = processor_time();
+        (processor_time() - start).as_nanos() as f64
+    };
+    *COST.get_or_init(|| median((0..READINGS).map(reading).collect()))
+}
+
+/// The processor time of a body in ns, less that of reading the clock.
+fn timed(body: impl FnOnce()) -> f64 {
+    let cost = reading_cost();
+    let start = processor_time();
+    body();
+    (processor_time() - start).as_nanos() as f64 - cost
 }
 
 /// A work whose whole body is measured.
 pub fn whole<'a, T>(mut body: impl FnMut() -> T + 'a) -> Work<'a> {
     Box::new(move |times| {
-        let start = Instant::now();
-        for _ in 0..times {
-            black_box(body());
-        }
-        start.elapsed()
+        let time = timed(|| {
+            for _ in 0..times {
+                black_box(body());
+            }
+        });
+        time / f64::from(times)
     })
 }
 
 /// A work of two halves that undo each other, of which one is measured.
-pub fn half<'a>(first: bool, mut halves: impl FnMut(bool) + 'a) -> Work<'a> {
-    let clock = clock_time();
+///
+/// Each half is done to so many things one after the other, since reading the clock takes about as
+/// long as a short call.
+pub fn half<'a>(first: bool, things: usize, mut halves: impl FnMut(bool, usize) + 'a) -> Work<'a> {
     Box::new(move |times| {
-        let mut sum = Duration::ZERO;
+        let mut sum = 0.0;
         for _ in 0..times {
             for is_first in [true, false] {
-                let start = Instant::now();
-                halves(is_first);
-                let time = start.elapsed();
+                let time = timed(|| (0..things).for_each(|thing| halves(is_first, thing)));
                 if is_first == first {
-                    sum += time.saturating_sub(clock);
+                    sum += time;
                 }
             }
         }
-        sum
+        sum / (f64::from(times) * things as f64)
     })
 }
 
-/// What asking the clock costs: the least of many readings.
-fn clock_time() -> Duration {
-    let reading = |_| Instant::now().elapsed();
-    (0..1000).map(reading).min().unwrap_or_default()
-}
-
-/// How often a work runs in one batch.
-fn times_of(work: &mut Work, batch: Duration) -> u32 {
+/// How often a work runs in its turn.
+fn times_of(work: &mut Work, turn: Duration) -> u32 {
     let mut times = 1;
     loop {
-        let start = Instant::now();
+        let start = processor_time();
         work(times);
-        // Counted with what is not measured, so that a batch is never long.
-        if start.elapsed() * 2 >= batch || times >= 1 << 20 {
+        // Counted with what is not measured, so that a turn is never long.
+        if (processor_time() - start) * 2 >= turn || times >= 1 << 20 {
             return times;
         }
         times *= 2;
     }
 }
 
-/// The median time of each work in ns; they take turns.
-pub fn medians(works: &mut [Work], effort: Effort) -> Vec<f64> {
-    let times: Vec<u32> = works
-        .iter_mut()
-        .map(|work| times_of(work, effort.batch))
-        .collect();
-    let mut samples = vec![Vec::new(); works.len()];
-    for _ in 0..effort.batches {
-        for ((work, &times), samples) in works.iter_mut().zip(&times).zip(&mut samples) {
-            let time = work(times).as_nanos() as f64;
-            samples.push(time / f64::from(times));
-        }
-    }
-    samples.into_iter().map(median).collect()
+/// Measures some works in rounds in which they take turns.
+pub fn rounds(mut works: Vec<Named>, effort: Effort) -> Samples {
+    let times = |(_, work): &mut Named| times_of(work, effort.turn);
+    let times: Vec<u32> = works.iter_mut().map(times).collect();
+    take_turns(&mut works, &times, effort.rounds)
 }
 
-/// The middle of some numbers.
-fn median(mut samples: Vec<f64>) -> f64 {
-    samples.sort_by(f64::total_cmp);
-    samples[samples.len() / 2]
+/// The rounds themselves; each begins with the work after the one that the last began with.
+pub fn take_turns(works: &mut [Named], times: &[u32], rounds: usize) -> Samples {
+    let mut samples = Samples::new();
+    for round in 0..rounds {
+        for turn in 0..works.len() {
+            let index = (round + turn) % works.len();
+            let (name, work) = &mut works[index];
+            samples.entry(name).or_default().push(work(times[index]));
+        }
+    }
+    samples
+}
+
+/// The number at a part of the way from the least to the greatest, or between the two next to it.
+fn quantile(sorted: &[f64], part: f64) -> f64 {
+    let place = part * (sorted.len() - 1) as f64;
+    let below = sorted[place.floor() as usize];
+    let above = sorted[place.ceil() as usize];
+    below + (above - below) * place.fract()
+}
+
+/// The lower quartile, the median and the upper quartile of some numbers, at least one.
+pub fn quartiles(mut numbers: Vec<f64>) -> [f64; 3] {
+    numbers.sort_by(f64::total_cmp);
+    [0.25, 0.5, 0.75].map(|part| quantile(&numbers, part))
+}
+
+/// The middle of some numbers, at least one.
+pub fn median(numbers: Vec<f64>) -> f64 {
+    quartiles(numbers)[1]
 }

@@ -2,7 +2,9 @@
 
 use std::collections::BTreeMap;
 
-use crate::growth::Point;
+use crate::growth::{points, Point, SERIES};
+use crate::names::MATRIX;
+use crate::summary::Summary;
 
 const PANEL_WIDTH: f64 = 300.0;
 const PANEL_HEIGHT: f64 = 240.0;
@@ -72,17 +74,38 @@ fn polyline(left: f64, most: usize, points: &[&Point], colour: &str, is_dashed: 
 }
 
 /// The lines of one series.
-fn lines_of<'a>(points: &'a [Point], series: &str) -> Lines<'a> {
+fn lines_of(points: &[Point]) -> Lines<'_> {
     let mut lines = Lines::new();
-    for point in points.iter().filter(|point| point.series == series) {
-        let key = (point.call.as_str(), point.implementation);
+    for point in points {
+        let key = (point.call.as_str(), point.implementation.as_str());
         lines.entry(key).or_default().push(point);
     }
     lines
 }
 
-/// The whole plot.
-pub fn svg(points: &[Point]) -> String {
+/// What a line stands for, in its colour.
+fn legend_line(index: usize, x: f64, call: &str, implementation: &str) -> String {
+    let colour = COLOURS[index % COLOURS.len()];
+    let y = MARGIN + 16.0 * index as f64;
+    let words = text(x, y, "start", &format!("{call} ({implementation})"));
+    format!("<g fill=\"{colour}\">{words}</g>\n")
+}
+
+/// One panel, with its lines.
+fn panel(left: f64, series: &str, lines: &Lines) -> String {
+    let amounts = lines.values().flatten().map(|point| point.amount);
+    let most = amounts.max().unwrap_or(1).max(1);
+    let mut svg = frame(left, series, most);
+    for (index, ((_, implementation), points)) in lines.iter().enumerate() {
+        let colour = COLOURS[index % COLOURS.len()];
+        let is_dashed = *implementation == MATRIX;
+        svg += &polyline(left, most, points, colour, is_dashed);
+    }
+    svg
+}
+
+/// The whole plot, of the medians over the runs.
+pub fn svg(summary: &Summary) -> String {
     let width = 3.0 * (PANEL_WIDTH + MARGIN) + MARGIN + LEGEND_WIDTH;
     let height = PANEL_HEIGHT + 2.0 * MARGIN;
     let mut svg = format!(
@@ -90,24 +113,17 @@ pub fn svg(points: &[Point]) -> String {
          font-family=\"sans-serif\" font-size=\"11\">\n<rect width=\"100%\" height=\"100%\" fill=\"white\"/>\n"
     );
     let mut legend = String::new();
-    for (panel, series) in ["tasks", "blocks", "rows"].into_iter().enumerate() {
-        let left = MARGIN + panel as f64 * (PANEL_WIDTH + MARGIN);
-        let lines = lines_of(points, series);
-        let amounts = lines.values().flatten().map(|point| point.amount);
-        let most = amounts.max().unwrap_or(1).max(1);
-        svg += &frame(left, series, most);
-        legend.clear();
-        for (index, ((call, implementation), points)) in lines.iter().enumerate() {
-            let colour = COLOURS[index % COLOURS.len()];
-            let is_dashed = *implementation == "matrix";
-            svg += &polyline(left, most, points, colour, is_dashed);
-            let y = MARGIN + 16.0 * index as f64;
-            let x = width - LEGEND_WIDTH;
-            legend += &format!("<g fill=\"{colour}\">");
-            legend += &text(x, y, "start", &format!("{call} ({implementation})"));
-            legend += "</g>\n";
-        }
+    for (index, series) in SERIES.into_iter().enumerate() {
+        let left = MARGIN + index as f64 * (PANEL_WIDTH + MARGIN);
+        let points = points(summary, series);
+        let lines = lines_of(&points);
+        svg += &panel(left, series, &lines);
+        let keys = lines.keys().enumerate();
+        let x = width - LEGEND_WIDTH;
+        // All panels have the same lines, so the last legend serves all.
+        legend = keys
+            .map(|(index, (call, implementation))| legend_line(index, x, call, implementation))
+            .collect();
     }
-    // All panels have the same lines, so the last legend serves all.
     svg + &legend + "</svg>\n"
 }

@@ -1,4 +1,4 @@
-//! The measured calls: one row of the table for each call on a load, with a time for each implementation.
+//! The measured calls: a row for each call on a load, in which the implementations take turns.
 
 use std::cell::RefCell;
 use std::hint::black_box;
@@ -9,55 +9,56 @@ use oracle::listing::LIST_ROOM;
 use oracle::Position;
 
 use crate::loads::{Load, Probe, PROBE_NUMBER};
-use crate::measure::{half, medians, whole, Effort, Work};
+use crate::measure::{half, rounds, whole, Effort, Named, Samples, Work};
+use crate::names::{MATRIX, MEMCMP, PLAIN, PROVED};
 
-/// The times of one call on one load, in ns.
+/// On how many records in turn a task is placed before it is released from them:
+/// few enough to stay in a core's second cache.
+const RECORDS: usize = 8;
+
+/// The times of one call on one load.
 pub struct Row {
-    /// The load's name.
-    pub load: String,
     /// The call, with its task.
     pub call: String,
-    /// One for each implementation, in their order.
-    pub subjects: Vec<f64>,
-    /// The matrix scan, for list and choose.
-    pub matrix: Option<f64>,
+    /// The times of each implementation, by rounds.
+    pub samples: Samples,
 }
 
-/// Measures works, of which a last one more than there are implementations is the matrix scan.
-fn row(load: &Load, call: String, mut works: Vec<Work>, effort: Effort) -> Row {
-    let mut times = medians(&mut works, effort);
-    let matrix = (times.len() > SUBJECTS.len()).then(|| times.pop());
-    Row {
-        load: load.name.clone(),
-        call,
-        subjects: times,
-        matrix: matrix.flatten(),
-    }
+/// A work for each implementation.
+fn subjects<'a>(work: impl Fn(&'static dyn Calls) -> Work<'a>) -> Vec<Named<'a>> {
+    let named = |subject: &'static dyn Calls| (subject.name(), work(subject));
+    SUBJECTS.map(named).into()
 }
 
-/// New, interval count, and the record's check by itself.
+/// The comparison of two equal records.
+fn memcmp(load: &Load) -> Work<'_> {
+    let copy = load.record.clone();
+    whole(move || black_box(&load.record[..]) == black_box(&copy[..]))
+}
+
+/// The interval count: the check of the record, and one byte.
+fn count<'a>(subject: &'static dyn Calls, load: &'a Load) -> Work<'a> {
+    whole(move || subject.interval_count(black_box(&load.record), 0))
+}
+
+/// Measures works, and memcmp beside them.
+fn row<'a>(load: &'a Load, call: String, mut works: Vec<Named<'a>>, effort: Effort) -> Row {
+    works.push((MEMCMP, memcmp(load)));
+    let samples = rounds(works, effort);
+    Row { call, samples }
+}
+
+/// New and interval count.
 pub fn simple_rows(load: &Load, effort: Effort) -> Vec<Row> {
     let made = RefCell::new(vec![0; RECORD_SIZE]);
     let new = |subject: &'static dyn Calls| {
         let made = &made;
         whole(move || subject.new(&mut made.borrow_mut(), load.rows, black_box(&load.kinds)))
     };
-    let count = |subject: &'static dyn Calls| {
-        whole(move || subject.interval_count(black_box(&load.record), 0))
-    };
+    let counts = subjects(|subject| count(subject, load));
     vec![
-        row(
-            load,
-            "new".into(),
-            SUBJECTS.map(new).into_iter().collect(),
-            effort,
-        ),
-        row(
-            load,
-            "interval count".into(),
-            SUBJECTS.map(count).into_iter().collect(),
-            effort,
-        ),
+        row(load, "new".into(), subjects(new), effort),
+        row(load, "interval count".into(), counts, effort),
     ]
 }
 
@@ -66,25 +67,31 @@ pub fn change_rows(load: &Load, probe: &Probe, effort: Effort) -> Vec<Row> {
     let chosen = SUBJECTS[0].choose(&load.record, &probe.task);
     assert!(chosen >= 0, "{} has no place for {}", load.name, probe.name);
     let Position { column, bottom } = Position::of_answer(chosen);
+    let records = RefCell::new(vec![load.record.clone(); RECORDS]);
     let work = |subject: &'static dyn Calls, first: bool| {
-        let mut record = load.record.clone();
-        half(first, move |is_place| {
+        let records = &records;
+        half(first, RECORDS, move |is_place, index| {
+            let record = &mut records.borrow_mut()[index];
             let answer = match is_place {
                 true => {
                     let task = black_box(&probe.task);
-                    subject.place(&mut record, task, PROBE_NUMBER, column, bottom)
+                    subject.place(record, task, PROBE_NUMBER, column, bottom)
                 }
-                false => subject.release(&mut record, PROBE_NUMBER),
+                false => subject.release(record, PROBE_NUMBER),
             };
             assert_eq!(answer, 0);
         })
     };
-    let works = |first| SUBJECTS.map(|subject| work(subject, first)).into_iter();
-    let name = |call: &str| format!("{call}, {}", probe.name);
+    let works = |first| subjects(|subject| work(subject, first));
     vec![
-        row(load, name("place"), works(true).collect(), effort),
-        row(load, name("release"), works(false).collect(), effort),
+        row(load, named("place", probe), works(true), effort),
+        row(load, named("release", probe), works(false), effort),
     ]
+}
+
+/// A call with its task.
+fn named(call: &str, probe: &Probe) -> String {
+    format!("{call}, {}", probe.name)
 }
 
 /// List and choose of a task, with the matrix scan behind the same check.
@@ -95,50 +102,62 @@ pub fn search_rows(load: &Load, probe: &Probe, effort: Effort) -> Vec<Row> {
         let output = &output;
         whole(move || subject.list(black_box(record), task, &mut output.borrow_mut()))
     };
-    let mut lists: Vec<Work> = SUBJECTS.map(list).into_iter().collect();
-    lists.push(whole(|| {
-        matrix::list(black_box(record), task, &mut output.borrow_mut())
-    }));
     let choose =
         |subject: &'static dyn Calls| whole(move || subject.choose(black_box(record), task));
-    let mut chooses: Vec<Work> = SUBJECTS.map(choose).into_iter().collect();
-    chooses.push(whole(|| matrix::choose(black_box(record), task)));
-    let name = |call: &str| format!("{call}, {}", probe.name);
+    let matrix_list = || matrix::list(black_box(record), task, &mut output.borrow_mut());
+    let mut lists = subjects(list);
+    lists.push((MATRIX, whole(matrix_list)));
+    let mut chooses = subjects(choose);
+    chooses.push((MATRIX, whole(|| matrix::choose(black_box(record), task))));
     vec![
-        row(load, name("list"), lists, effort),
-        row(load, name("choose"), chooses, effort),
+        row(load, named("list", probe), lists, effort),
+        row(load, named("choose", probe), chooses, effort),
     ]
 }
 
-/// The searches alone, without the record's check, of plain and of the matrix.
+/// The searches of list and choose without the record's check.
 ///
-/// Only these two can be called so: the implementations' calls all check the record.
-pub fn search_alone(load: &Load, probe: &Probe, effort: Effort) -> [(String, f64, f64); 2] {
+/// The searches of plain and of the matrix can be called by themselves; the proved one is its call
+/// less the interval count.
+pub fn search_alone(load: &Load, probe: &Probe, effort: Effort) -> Vec<Row> {
     let record = plain::calls::checked(&load.record).expect("loads are sound");
     let output = RefCell::new(vec![0; LIST_ROOM]);
-    let task = &probe.task;
-    let mut lists = [
-        whole(|| plain::calls::search_list(black_box(record), task, &mut output.borrow_mut())),
-        whole(|| matrix::search_list(black_box(record), task, &mut output.borrow_mut())),
+    let (bytes, task, proved) = (&load.record, &probe.task, SUBJECTS[0]);
+    let plain_list =
+        || plain::calls::search_list(black_box(record), task, &mut output.borrow_mut());
+    let matrix_list = || matrix::search_list(black_box(record), task, &mut output.borrow_mut());
+    let lists = [
+        whole(plain_list),
+        whole(matrix_list),
+        whole(|| proved.list(black_box(bytes), task, &mut output.borrow_mut())),
     ];
-    let mut chooses = [
+    let chooses = [
         whole(|| plain::calls::search_choose(black_box(record), task)),
         whole(|| matrix::search_choose(black_box(record), task)),
+        whole(|| proved.choose(black_box(bytes), task)),
     ];
-    let list = medians(&mut lists, effort);
-    let choose = medians(&mut chooses, effort);
-    let name = |call: &str| format!("{call}, {}", probe.name);
-    [
-        (name("list"), list[0], list[1]),
-        (name("choose"), choose[0], choose[1]),
+    vec![
+        alone(load, named("list", probe), lists, effort),
+        alone(load, named("choose", probe), chooses, effort),
     ]
 }
 
-/// The time in which two equal records are compared, in ns.
-pub fn memcmp(load: &Load, effort: Effort) -> f64 {
-    let copy = load.record.clone();
-    let mut works = [whole(|| {
-        black_box(&load.record[..]) == black_box(&copy[..])
-    })];
-    medians(&mut works, effort)[0]
+/// The check of the record, measured to be taken off.
+const CHECK: &str = "check";
+
+/// Measures the searches of plain and of the matrix, and the proved call less the check in it.
+fn alone(load: &Load, call: String, works: [Work; 3], effort: Effort) -> Row {
+    let [plain, matrix, whole_call] = works;
+    let works = vec![
+        (PLAIN, plain),
+        (MATRIX, matrix),
+        (PROVED, whole_call),
+        (CHECK, count(SUBJECTS[0], load)),
+    ];
+    let mut samples = rounds(works, effort);
+    let checks = samples.remove(CHECK).unwrap_or_default();
+    for (time, check) in samples.entry(PROVED).or_default().iter_mut().zip(checks) {
+        *time -= check;
+    }
+    Row { call, samples }
 }
