@@ -1,29 +1,18 @@
-//! The links of the documents: where they point, and on which line a name is declared.
+//! What the documents point at: links, clauses, and the names in the map of proofs.
 //!
-//! A link with a line, such as ``[`meet`](../crates/runs/src/lib.rt#L104)``, has to name the line
-//! that declares the name in it. The tests check that; the program `relink` sets the lines anew
-//! after a change.
+//! The tests compare the documents with the files that are there: [`links`] finds the links of a
+//! text, [`clauses`] the clauses that it states or cites, and [`map`] reads the rows of
+//! `docs/PROOFS.md`, in which names follow the file that declares them.
 
 #![deny(missing_docs)]
 #![forbid(unsafe_code)]
 
 use std::fs;
 use std::io;
-use std::ops::Range;
 use std::path::{Path, PathBuf};
 
-/// A link in a text.
-#[derive(Clone, Debug, PartialEq, Eq)]
-pub struct Link {
-    /// The name shown, without backticks.
-    pub name: String,
-    /// The file that it points at, relative to the text's folder.
-    pub path: String,
-    /// The line, if the link has one.
-    pub line: Option<usize>,
-    /// Where the digits of the line stand in the text; empty without a line.
-    pub digits: Range<usize>,
-}
+pub mod clauses;
+pub mod map;
 
 /// The top folder of the repository.
 pub fn top() -> PathBuf {
@@ -34,48 +23,53 @@ pub fn top() -> PathBuf {
 pub fn texts() -> io::Result<Vec<PathBuf>> {
     let mut found = vec![top().join("README.md")];
     for folder in ["docs", "examples"] {
-        for entry in fs::read_dir(top().join(folder))? {
-            let path = entry?.path();
-            if path.extension().is_some_and(|ending| ending == "md") {
-                found.push(path);
-            }
+        let files = files(&top().join(folder))?;
+        found.extend(files.into_iter().filter(|path| ends_with(path, "md")));
+    }
+    found.sort();
+    Ok(found)
+}
+
+/// The files in a folder and below it, by their names.
+pub fn files(folder: &Path) -> io::Result<Vec<PathBuf>> {
+    let mut found = Vec::new();
+    for entry in fs::read_dir(folder)? {
+        let path = entry?.path();
+        if path.is_dir() {
+            found.extend(files(&path)?);
+        } else {
+            found.push(path);
         }
     }
     found.sort();
     Ok(found)
 }
 
-/// The links of a text to files of the repository, in their order.
-pub fn links(text: &str) -> Vec<Link> {
-    let mut found = Vec::new();
-    for (middle, _) in text.match_indices("](") {
-        let start = text[..middle].rfind('[').map_or(middle, |at| at + 1);
-        let from = middle + 2;
-        let Some(length) = text[from..].find(')') else {
-            break;
-        };
-        let target = &text[from..from + length];
-        if target.contains("://") {
-            continue;
-        }
-        let (path, line) = target.split_once("#L").unwrap_or((target, ""));
-        let end = from + length;
-        found.push(Link {
-            name: text[start..middle].trim_matches('`').into(),
-            path: path.into(),
-            line: line.parse().ok(),
-            digits: end - line.len()..end,
-        });
-    }
-    found
+/// Whether a file's name has this ending.
+pub fn ends_with(path: &Path, ending: &str) -> bool {
+    path.extension().is_some_and(|found| found == ending)
 }
 
-/// The line, from 1, on which a source file declares a name.
-pub fn declared(source: &str, name: &str) -> Option<usize> {
-    source
-        .lines()
-        .position(|line| declares(line, name))
-        .map(|at| at + 1)
+/// The files of the repository that a text links to, in their order: in `[..](path)`, and in lines
+/// `[label]: path`.
+pub fn links(text: &str) -> Vec<&str> {
+    let beside = text.split("](").skip(1);
+    let beside = beside.filter_map(|rest| rest.split_once(')').map(|(path, _)| path));
+    let below = map::references(text).into_iter().map(|(_, path)| path);
+    beside
+        .chain(below)
+        .filter(|path| !path.contains("://"))
+        .collect()
+}
+
+/// Whether a link names a line of its file.
+pub fn names_a_line(link: &str) -> bool {
+    link.contains("#L")
+}
+
+/// Whether a source file declares a name.
+pub fn declared(source: &str, name: &str) -> bool {
+    source.lines().any(|line| declares(line, name))
 }
 
 /// Words that stand before the name where it is declared.
