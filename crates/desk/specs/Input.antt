@@ -1,18 +1,16 @@
 -- The input's lines, and what its first three lead to. Assumes nothing.
 use Prim.Native.Nat.{ℕ, _+_, _-_, _≤_}
 use mathlib.Core.Path.{_≡_}
-use mathlib.Core.Bool.{true, cond}
+use mathlib.Core.Bool.{true}
 use mathlib.Core.Option.{Option, none, some}
 use mathlib.Core.List.{List, [], _∷_}
-use lib.Dec.{ltb}
 use lib.IntN.{ℤ}
 use lib.ListN.{length, take, drop}
-use Rattle.model.specs.Limits.{max-sheet}
 use Rattle.model.specs.Columns.{Device, device-ok}
 use Rattle.model.specs.Record.{record-of}
 use Rattle.model.specs.OnRecord.{new}
 use Rattle.model.specs.Sheet.{line-answer}
-use Rattle.model.specs.Program.{says, malformed, first, on-lines, lines}
+use Rattle.model.specs.Program.{says, on-lines, lines}
 use Rattle.card.specs.Leaves.{Changes}
 use Rattle.desk.specs.declared.input.Begun.{Begun}
 use Rattle.desk.specs.declared.input.Begun.the-variants.{Ready, Fault}
@@ -41,7 +39,3 @@ Opened (Fault line answer) d card = Unit {0}
 -- what the first lines lead to: the output of all lines is what is printed from there on
 abbrev pub Begins : Begun → List ℕ → List ℕ → List ℕ → Type 0
 Begins b input card output = (d : Device) × Opened b d card × (output ≡ rest-of b d input)
-
--- what the program prints after the names line
-unfoldable pub after-names : List ℕ → List ℕ
-after-names input = cond (ltb max-sheet (length input)) (malformed 0) (first (lines input))

@@ -1,6 +1,5 @@
 // The input: where its lines end, and its first three lines.
 use crate::MALFORMED_LINE;
-use crate::MAX_SHEET;
 use line::device::DeviceRead;
 ghost use mathlib.Core.Path.{_≡_};
 ghost use Prim.Native.Nat.{_<_};
@@ -10,7 +9,7 @@ ghost use Rattle.model.specs.Sheet.{device-line};
 ghost use lib.IntN.{negsuc};
 ghost use Rattle.model.specs.Columns.{Device};
 ghost use Rattle.model.specs.Program.{first, second, third, lines};
-ghost use Rattle.desk.specs.Input.{Ends, Opens, rest-of, Begins, after-names};
+ghost use Rattle.desk.specs.Input.{Ends, Opens, rest-of, Begins};
 
 // What the first three lines lead to: where the fourth starts, or the line that ends the program and its refusal.
 pub enum Begun {
@@ -80,8 +79,8 @@ fn second(input: &[u8], at: usize, card: &mut [u8]) -> Begun
     third(input, end + 1)
 }
 
-// The first line, and the second and the third.
-fn first(input: &[u8], card: &mut [u8]) -> Begun
+// The first line, and the second and the third. The card is that of the second line.
+pub fn first(input: &[u8], card: &mut [u8]) -> Begun
     requires { ⌜ length (now card) ≡ record-size ⌝ }
     ensures { λ r. ⌜ Begins r (now (input .entry)) (now (card .exit)) (first (lines (now (input .entry)))) ⌝ }
 {
@@ -93,15 +92,4 @@ fn first(input: &[u8], card: &mut [u8]) -> Begun
         return malformed(1);
     }
     second(input, end + 1, card)
-}
-
-// The first three lines of an input that is not too long. The card is that of the second line.
-pub fn begin(input: &[u8], card: &mut [u8]) -> Begun
-    requires { ⌜ length (now card) ≡ record-size ⌝ }
-    ensures { λ r. ⌜ Begins r (now (input .entry)) (now (card .exit)) (after-names (now (input .entry))) ⌝ }
-{
-    if MAX_SHEET < input.len() {
-        return malformed(0);
-    }
-    first(input, card)
 }

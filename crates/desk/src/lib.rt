@@ -1,17 +1,13 @@
 // The sheet's desk: a card's record and a draft task, and what each line of a sheet does to them and prints.
-// Each function's contract is document 01's line by the book (model/specs/Program.antt); that they make up the model's program
-// is `program-done` (specs/Laws/Program.antt). The program `sheet` only reads and writes.
-pub mod input; // where lines end, and the first three lines
-mod output; // the names line, and lines that have only an answer
+// Each contract is the model's line by the book (model/specs/Program.antt), and that of `program` is one turn of the model's program.
+// The program `sheet` only reads, makes turns and writes.
+pub mod program; // the start, and one turn
+mod input; // where lines end, and the first three lines
+mod lines; // a line from the fourth on
+mod output; // lines that have only an answer
 mod blocks; // B
 mod calls; // C, P and R
 mod ranges; // L
-pub mod lines; // a line from the fourth on
-
-pub use blocks::Left;
-pub use line::LINE_ROOM;
-pub use output::names;
-pub use output::say;
 
 // The most bytes of an input.
 pub const MAX_SHEET: usize = 32768;

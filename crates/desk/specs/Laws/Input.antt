@@ -29,7 +29,7 @@ use Rattle.card.specs.Leaves.{Changes}
 use Rattle.desk.specs.declared.input.Begun.{Begun}
 use Rattle.desk.specs.declared.input.Begun.the-variants as begun
 use Rattle.desk.specs.Desk.{Card}
-use Rattle.desk.specs.Input.{Ends, Opens, Opened, rest-of, Begins, after-names}
+use Rattle.desk.specs.Input.{Ends, Opens, Opened, rest-of, Begins}
 use Rattle.desk.specs.Laws.Card.{card-of}
 
 -- ---- the first line and the others
@@ -191,17 +191,3 @@ module _ (r : List ℕ) (size : length r ≡ record-size) (ls : List (List ℕ))
           let bad : a ≡ negsuc 2 = c .answer-is ∙ ap (λ (o : Outcome (List ℕ)). o .answer) (new-bad-device r (d .rows) (d .kinds) size e) in
           let z : _≡_ {A = ℕ} 0 1 = cc bad in
           absurd (omega arith)
-
--- an input that is too long, and any other
-pub sheet-long : (s : List ℕ) → max-sheet < length s → after-names s ≡ says 0 (negsuc 11)
-unfolding after-names
-sheet-long s h = rw (lt-ltb _ _ h)
-
-pub sheet-short : (s : List ℕ) → length s ≤ max-sheet → after-names s ≡ first (lines s)
-unfolding after-names
-sheet-short s h = rw (le-ltb _ _ h)
-
--- where the fourth line is reached, there is a card
-pub ready-card : (b : Begun) {n : ℕ} (input card output : List ℕ) → b ≡ begun.Ready n → Begins b input card output → Card card
-ready-card (begun.Ready at) input card output e (d, (is, ok), o) = rw is (card-of d [] (within-new d ok))
-ready-card (begun.Fault line answer) input card output e x = let z : _≡_ {A = ℕ} 0 1 = cc in absurd (omega arith)
