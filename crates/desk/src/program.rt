@@ -12,7 +12,7 @@ ghost use Rattle.model.specs.Limits.{record-size};
 ghost use Rattle.model.specs.Program.{says};
 ghost use Rattle.line.specs.Print.{Printed, line-room};
 ghost use Rattle.desk.specs.Desk.{Room};
-ghost use Rattle.desk.specs.Run.{stand-at, ended, state, Standing, Starts, Turned, Faults};
+ghost use Rattle.desk.specs.Run.{state, Standing, Starts, Turned, Faults};
 
 // Where the program stands: how many bytes of the output the last turn printed, and whether a line is left. If one is: the byte of
 // the input at which it starts, its number, and how many bytes of the draft are used.
@@ -22,20 +22,6 @@ pub struct Stand {
     pub at: usize,
     pub number: u32,
     pub used: usize,
-}
-
-// The stand at the line that starts at `at`, if one does.
-fn stand_at(input: &[u8], at: usize, number: u32, used: usize, printed: usize) -> Stand
-    ensures { λ r. ⌜ r ≡ stand-at (now (input .entry)) at number used printed ⌝ }
-{
-    let more = at < input.len();
-    Stand {
-        printed: printed,
-        more: more,
-        at: at,
-        number: number,
-        used: used,
-    }
 }
 
 // The end, after the line of a fault, which is printed from byte `at` on.
@@ -64,7 +50,13 @@ pub fn start(input: &[u8], card: &mut [u8], out: &mut [u8]) -> Stand
     }
     match input::first(input, card) {
         Begun::Fault { line, answer } => fault(out, printed, line, answer),
-        Begun::Ready(at) => stand_at(input, at, 4, 0, printed),
+        Begun::Ready(at) => Stand {
+            printed: printed,
+            more: at < input.len(),
+            at: at,
+            number: 4,
+            used: 0,
+        },
     }
 }
 
@@ -91,5 +83,11 @@ pub fn turn(
         listing,
         out,
     );
-    stand_at(input, end + 1, stand.number + 1, left.used, left.printed)
+    Stand {
+        printed: left.printed,
+        more: end + 1 < input.len(),
+        at: end + 1,
+        number: stand.number + 1,
+        used: left.used,
+    }
 }

@@ -44,14 +44,14 @@ returns-2 c =
 
 returns-3 : tie.Need-returns-3
 returns-3 c =
-    let a = c .before .before in
+    let a = c .before in
     let b = a .before .before .before .before in
     let t = b .before .before in
     let n = named (t .before) in
-    rw (c .stand-at .ensures) (starts-ready _ _ _ _ _ (n .print-names .ensures) (room n) _ (t .if1 .left) (rw (a .at .given .1) at (b .first .ensures)))
+    starts-ready _ _ _ _ _ (n .print-names .ensures) (room n) _ (t .if1 .left) (rw (a .at .given .1) at (b .first .ensures))
 
 pub start-spec : {M : Type 1} → statement M
 start-spec =
     tie.close
     (tie.spec (λ c κs. search needs) (λ c κs. search needs) (λ c. search needs) returns (λ c κs. search needs) (λ c. search needs) (λ c κs. search needs)
-    (λ c. search needs) (λ c κs. search needs) (λ c. search needs) (λ c. search needs) returns-2 (λ c. search needs) (λ c. search needs) returns-3)
+    (λ c. search needs) (λ c. search needs) (λ c. search needs) returns-2 (λ c. search needs) (λ c. search needs) returns-3)
