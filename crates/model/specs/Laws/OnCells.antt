@@ -1,4 +1,4 @@
--- A task fits just where all its blocks fit cells that the book has free. Assumes nothing.
+-- MODEL 6 and 15.6: a task fits just where all its blocks fit on cells that are free in the book. Assumes nothing.
 use Prim.Native.Nat.{ℕ, _+_, _-_, _*_, _/_, _%_, _≤_, _<_}
 use mathlib.Core.Path.{_≡_, sym, ap, _∙_}
 use mathlib.Core.Logic.{_↔_}
