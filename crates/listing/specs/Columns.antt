@@ -20,21 +20,21 @@ pub record Given (r t : List ℕ) : Type 0 where
   pub sized : sized t ≡ true
   pub formed : well-formed t ≡ true
 
--- whether device column c is on the device and of kind k
+-- whether column c is one of the device and has kind k
 pub record OfKind (r : List ℕ) (c k : ℕ) (q : Bool) : Type 0 where
   pub yes : q ≡ true → (c < columns (device-of r)) × (kind (device-of r) c ≡ k)
   pub none : q ≡ false → c < columns (device-of r) → kind (device-of r) c ≡ k → ⊥
 
--- MODEL 6.2: block k, moved by p, stands in a device column of its kind
+-- MODEL 6.2: the column of block k, moved by p, is one of the device and has its kind
 abbrev pub On : List ℕ → List ℕ → ℕ → ℕ → Type 0
 On r t p k = (p + block t k .column < columns (device-of r)) × (kind (device-of r) (p + block t k .column) ≡ block t k .kind)
 
--- whether all blocks do
+-- whether all blocks have such a column
 pub record OnAll (r t : List ℕ) (p : ℕ) (q : Bool) : Type 0 where
   pub yes : q ≡ true → (k : ℕ) → k < blocks t → On r t p k
   pub none : q ≡ false → (k : ℕ) × (k < blocks t) × (On r t p k → ⊥)
 
--- they do
+-- a sound record and a well-formed task, all of whose blocks have such a column
 pub record Liftable (r t : List ℕ) (p : ℕ) : Type 0 where
   pub given : Given r t
   pub on : (k : ℕ) → k < blocks t → On r t p k

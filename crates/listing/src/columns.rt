@@ -27,7 +27,7 @@ fn of_kind(record: &[u8], c: usize, kind: Kind) -> bool
     record[model::KINDS_AT + c] == kind.number()
 }
 
-// MODEL 6.2: whether each block of the task, moved to column p, stands in a device column of its kind.
+// MODEL 6.2: whether the column of each block, moved to column p, is one of the device and has its kind.
 fn on_columns(record: &[u8], task: &[u8], p: usize) -> bool
     requires { ⌜ Given (now «record») (now task) × (p < max-columns) ⌝ }
     ensures { λ q. ⌜ OnAll (now («record» .entry)) (now (task .entry)) p q ⌝ }

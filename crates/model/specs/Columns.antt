@@ -38,17 +38,19 @@ pub record Device : Type 0 where
 abbrev pub half-rows : Device → ℕ
 half-rows d = 2 * d .rows
 
--- how many columns it has, and the kind of column c; 0 where there is no such column
+-- MODEL 3.2: how many columns it has
 unfoldable pub columns : Device → ℕ
 columns d = length (d .kinds)
 
+-- MODEL 3.3: the kind of column c, 0 where there is no such column
 unfoldable pub kind : Device → ℕ → ℕ
 kind d c = getD (d .kinds) c 0
 
--- MODEL 3.4 and 3.6: the number of cells of column c, and its top
+-- MODEL 3.4: the number of cells of column c
 unfoldable pub cells : Device → ℕ → ℕ
 cells d c = cells-in (d .rows) (kind d c)
 
+-- MODEL 3.6: the top of column c
 unfoldable pub top : Device → ℕ → ℕ
 top d c = top-in (d .rows) (kind d c)
 

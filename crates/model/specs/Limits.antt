@@ -149,7 +149,7 @@ max-line = 80
 abbrev pub max-sheet : ℕ
 max-sheet = 32768
 
--- MODEL 17.7: the highest task, rows and column; bottom and top go from one below minus the last up to it
+-- MODEL 17.7: the highest task, rows and column, and the highest bottom or top; the lowest bottom or top is −32,768
 abbrev pub max-task-field : ℕ
 max-task-field = 65535
 

@@ -41,10 +41,11 @@ interval-count r c =
     unless (refused (wrong-length r ∷ not-sound r ∷ refuse 3 (not (ltb c (columns (device-of r)))) ∷ [])) [] r
     (record { answer = pos (length (intervals (device-of r) (book-of r) c)); output = []; state = r })
 
--- MODEL 16.2 and 16.3: the view, by what the interval count answers
+-- MODEL 16.2 and 16.3: the view by what the interval count answers, empty where it is refused
 unfoldable pub view-of : ℤ → List ℕ → ℕ → List ℕ
 view-of (pos n) r c = part r (column-at c) (interval-size * n)
 view-of (negsuc n) r c = []
 
+-- MODEL 16.2: the view of column c
 unfoldable pub view : List ℕ → ℕ → List ℕ
 view r c = view-of (interval-count r c .answer) r c

@@ -19,10 +19,11 @@ bytes16 n = n % bytes ∷ n / bytes % bytes ∷ []
 unfoldable pub padded : ℕ → List ℕ → List ℕ
 padded n l = take n (l ++ replicate n 0)
 
--- MODEL 8.5: the i-th of places of k bytes that hold the pieces ps in their order, and then zeros; and n such places
+-- MODEL 8.5: the i-th of places of k bytes that hold the pieces ps in their order, and then zeros
 unfoldable pub slot : ℕ → List (List ℕ) → ℕ → List ℕ
 slot k ps i = padded k (getD ps i [])
 
+-- n such places
 unfoldable pub slots : ℕ → ℕ → List (List ℕ) → List ℕ
 slots n k ps = join-below n (slot k ps)
 
@@ -65,10 +66,11 @@ record-of d b = image d b (intervals d b)
 unfoldable pub part {ℓ} : {A : Type ℓ} → List A → ℕ → ℕ → List A
 part r at n = take n (drop at r)
 
--- MODEL 8.2: where the part of column c begins, and where entry j does
+-- MODEL 8.2: where the part of column c begins
 abbrev pub column-at : ℕ → ℕ
 column-at c = intervals-at + column-size * c
 
+-- MODEL 8.2: where entry j begins
 abbrev pub entry-at : ℕ → ℕ
 entry-at j = entries-at + entry-size * j
 

@@ -91,10 +91,11 @@ pub data SheetCall : Type 0 where
   place-draft : (task column : ℕ) (bottom : ℤ) → SheetCall  -- P
   release-task : (task : ℕ) → SheetCall  -- R
 
--- MODEL 17.7: the number of the kind that a letter says, and a field that is one such letter
+-- MODEL 17.7: the number of the kind that a letter says
 unfoldable pub kind-letter : ℕ → Option ℕ
 kind-letter x = cond (eqb x (code "C")) (some kind-C) (cond (eqb x (code "B")) (some kind-B) (cond (eqb x (code "D")) (some kind-D) none))
 
+-- MODEL 17.7: a field that is one such letter
 unfoldable pub kind-field : List ℕ → Option ℕ
 kind-field f = cond (eqb (length f) 1) (kind-letter (getD f 0 0)) none
 

@@ -1,4 +1,4 @@
--- MODEL 19: the small cards K1 to K10, rows of one table under one theorem (MODEL 21.3), computed from the definitions. Assumes nothing.
+-- MODEL 19: the small cards K1 to K10, one table with one theorem about it (MODEL 21.3), computed from the definitions. Assumes nothing.
 use Prim.Native.Nat.{ℕ}
 use mathlib.Core.Path.{_≡_, refl}
 use mathlib.Core.List.{List, [], _∷_, _++_, map}
@@ -64,7 +64,7 @@ numbers = map pos
 abbrev room : List ℕ
 room = replicate list-room 0
 
--- ---- the cards and tasks
+-- ---- the cards and tasks, MODEL 19.1
 
 K1 : Device
 K1 = card 2 (1 ∷ [])

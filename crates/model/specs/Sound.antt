@@ -14,10 +14,11 @@ use Rattle.model.specs.Record.{device-of, book-of, listed-intervals, col
 
 -- ---- the running tasks
 
--- MODEL 9.4: a number of a task (MODEL 5.1), and numbers that rise
+-- MODEL 5.1 and 9.4: a number of a task
 unfoldable pub number-ok : ℕ → Bool
 number-ok n = leb 1 n && leb n max-number
 
+-- MODEL 9.4: each number is greater than the one before it
 unfoldable pub rising : Book → Bool
 rising [] = true
 rising (e ∷ []) = true
@@ -36,19 +37,21 @@ unfoldable pub apart : Device → Book → Bool
 apart d [] = true
 apart d (e ∷ b) = all-in (λ f. not (share d e f)) b && apart d b
 
--- MODEL 9.3 to 9.6: what is asked of the book; and with MODEL 9.2 what is asked of the device and the book. Then they are "within the limits".
+-- MODEL 9.3 to 9.6: what is asked of the book
 unfoldable pub book-ok : Device → Book → Bool
 book-ok d b = leb (length b) max-running && all-in (λ e. number-ok (e .number)) b && rising b && all-in (task-ok d) b && apart d b
 
+-- MODEL 9.2 to 9.6: what is asked of the device and the book, which are then within the limits
 unfoldable pub within : Device → Book → Bool
 within d b = device-ok d && book-ok d b
 
 -- ---- the bytes
 
--- MODEL 8.2 and 8.4: the count of intervals of column c, and the count of blocks of entry j, as written
+-- MODEL 8.2: the count of intervals of column c, as written
 abbrev pub count-of : List ℕ → ℕ → ℕ
 count-of r c = getD r (counts-at + c) 0
 
+-- MODEL 8.4: the count of blocks of entry j, as written
 abbrev pub block-count : List ℕ → ℕ → ℕ
 block-count r j = getD r (entry-at j + entry-count-at) 0
 
