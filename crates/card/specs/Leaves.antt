@@ -55,7 +55,7 @@ abbrev pub ChecksTask : List ℕ → List ℕ → Check → Type 0
 ChecksTask r t Pass = Given r t
 ChecksTask r t (Refuse z) = (c : Call) → HasTask t c → Refused r z c
 
--- MODEL 13.1: no row holds for this place
+-- MODEL 13.1: place is called with these arguments, and no row holds
 pub record Placing (r t : List ℕ) (n p : ℕ) (y : ℤ) : Type 0 where
   pub given : Given r t
   pub number : number-ok n ≡ true

@@ -1,4 +1,4 @@
--- MODEL 9.9: a record made again from what it says, entry by entry. So the contracts of `sound` and of what it calls say. Assumes nothing.
+-- MODEL 9.9: a record made again from what it says, entry by entry, as the contracts of `sound` and of what it calls have it. Assumes nothing.
 use Prim.Native.Nat.{ℕ, zero, suc, _≤_, _<_}
 use mathlib.Core.Path.{_≡_}
 use mathlib.Core.Bool.{Bool, true, false}
