@@ -1,13 +1,13 @@
 /* Where circuits may go on an FPGA card of mixed columns: the calls of target/staticlib/libcard.a.
  *
  * `rt staticlib card` proves and builds the archive. A byte string passes as a
- * pointer and a length. Two-byte numbers are little-endian. Heights, bottoms
- * and tops are in half rows.
+ * pointer and a length. A number of two bytes has its low byte first. Heights,
+ * bottoms and tops are in half rows. docs/MODEL.md defines all that is used here.
  *
- *   A task is 1 to 32 blocks of 6 bytes: column (1), kind (1), bottom (2, signed), top (2, signed),
- *   relative to the first block's column and bottom.
- *   A range is 6 bytes: column (1), step (1), first (2), last (2). It names the positions in its
- *   column from first to last, one step apart.
+ *   A task has 1 to 32 blocks of 6 bytes each: a column, a kind, and a bottom and a top, which are signed and have
+ *   two bytes. Column, bottom and top count from the column and the bottom of the first block.
+ *   A range has 6 bytes: a column, a step, and the first and the last bottom, of two bytes each. In its column it
+ *   stands for the bottoms first, first + step, and so on up to last.
  *
  * The caller keeps, and nothing checks, that
  *   - each pointer is valid for its length, for writing where it is not const; with length 0 it may be any, NULL too;
@@ -15,8 +15,8 @@
  *   - nobody else writes or reads a record while a call writes it.
  *
  * Promised, and proved, for all bytes, lengths and numbers whatever:
- *   - the answer and every byte are those that document 01 defines;
- *   - a refusal is the first row of its table that applies, and then no byte has changed;
+ *   - the answer and every byte are those that the model defines;
+ *   - a refusal is the first row of the table that holds, and then no byte has changed;
  *   - nothing outside the lent bytes is read or written, and every call returns.
  *
  * No pointer is kept and nothing is allocated: of the C library the archive needs memcpy and memset.
@@ -59,7 +59,7 @@
 #define CARD_INTERVALS_AT 132 /* upwards in each column */
 #define CARD_ENTRIES_AT 16516 /* by rising number */
 
-/* In an interval: a maximal run of free cells, top excluded. */
+/* In an interval: free cells one above the other, with no further free one below or above; the top is excluded. */
 #define CARD_INTERVAL_BOTTOM_AT 0 /* 2 bytes */
 #define CARD_INTERVAL_TOP_AT 2    /* 2 bytes */
 
@@ -91,7 +91,7 @@ enum card_kind {
     CARD_KIND_D = 2  /* multiplier (DSP), 5 half rows */
 };
 
-/* The refusals of document 01's table. */
+/* The refusals: the table of docs/MODEL.md, 13.1. */
 enum card_refusal {
     CARD_RECORD_LENGTH = -1,        /* the record is not 29,188 bytes */
     CARD_RECORD_NOT_SOUND = -2,     /* the record is not sound (all but new) */
@@ -117,15 +117,15 @@ extern "C" {
 /* Writes the record of a device, a column for each kind byte, all cells free. Answers 0, -1 or -3. */
 int32_t card_new(uint8_t *record, size_t record_len, uint32_t rows, const uint8_t *kinds, size_t kinds_len);
 
-/* Enters a task as running under a number, at a position, and takes its cells.
+/* Puts a task into the record under a number, at a position, so that it holds its cells.
    Answers 0, -1, -2, -4, -5, -7, -8 or -10. */
 int32_t card_place(uint8_t *record, size_t record_len, const uint8_t *task, size_t task_len,
                    uint32_t number, uint32_t column, int32_t bottom);
 
-/* Frees the cells of a running task and removes it. Answers 0, -1, -2 or -11. */
+/* Takes a running task out of the record, so that its cells are free again. Answers 0, -1, -2 or -11. */
 int32_t card_release(uint8_t *record, size_t record_len, uint32_t number);
 
-/* Writes the ranges of the positions at which a task fits; bytes after them stay.
+/* Writes the ranges of the positions at which a task fits; the bytes behind them are not written.
    Answers their number, or -1, -2, -4, -5, -6 or -9. */
 int32_t card_list(const uint8_t *record, size_t record_len, const uint8_t *task, size_t task_len,
                   uint8_t *output, size_t output_len);

@@ -1,5 +1,5 @@
-// The calls on one card's record, for the match server: exported with the C calling form, save the view.
-// Each contract equates the answer and every lent byte with document 01's call on that byte string (model/specs/OnRecord.antt), refusals included.
+// MODEL 12, 13 and 16: the calls on one card's record, for the match server. All but the view have the C calling form (MODEL 16.4).
+// Each contract fixes the answer and every lent byte by the model's call on these bytes (model/specs/OnRecord.antt), refused or not (MODEL 21.1).
 // In a contract `.entry` is what lies behind a reference as the call starts, and `.exit` as it returns.
 // `on-record` is also the step of the theorem about whole histories (model/specs/Laws/History.antt).
 use choice::Best;
@@ -19,7 +19,7 @@ ghost use Rattle.model.specs.OnRecord.{on-record, new, interval-count, view};
 ghost use Rattle.listing.specs.Columns.{Given};
 ghost use Rattle.card.specs.Leaves.{Leaves, Changes, ChecksRecord, ChecksTask, ChecksPlace, ChecksRelease, ChecksColumn};
 
-// Document 01's table of refusals; −3 is new's for a malformed device, and the interval count's for a missing column.
+// MODEL 13.1: the table of refusals. −3 is new's for what is no device, and the interval count's for a column that the device does not have.
 pub const RECORD_LENGTH: i32 = -1;
 
 pub const RECORD_NOT_SOUND: i32 = -2;
@@ -48,7 +48,7 @@ pub enum Check {
     Refuse(i32),
 }
 
-// The refusals of all calls but new: −1 and −2.
+// MODEL 13.1: the refusals of all calls but new, −1 and −2.
 fn check_record(record: &[u8]) -> Check
     ensures { λ r. ⌜ ChecksRecord (now («record» .entry)) r ⌝ }
 {
@@ -61,7 +61,7 @@ fn check_record(record: &[u8]) -> Check
     Check::Pass
 }
 
-// The refusals that list, choose and place share: −1, −2, −4 and −5.
+// MODEL 13.1: the refusals that list, choose and place share, −1, −2, −4 and −5.
 fn check_task(record: &[u8], task: &[u8]) -> Check
     ensures { λ r. ⌜ ChecksTask (now («record» .entry)) (now (task .entry)) r ⌝ }
 {
@@ -78,7 +78,7 @@ fn check_task(record: &[u8], task: &[u8]) -> Check
     Check::Pass
 }
 
-// Whether a task number is 1 to 65,535.
+// MODEL 5.1: whether a number is one of a task.
 fn number_ok(number: u32) -> bool
     ensures { λ r. ⌜ r ≡ number-ok number ⌝ }
 {
@@ -107,7 +107,7 @@ fn full(record: &[u8]) -> bool
     model::MAX_RUNNING <= record[model::RUNNING_AT] as usize
 }
 
-// Writes the record of a device with all cells free.
+// MODEL 12.3: writes the record of a device with all cells free.
 #[no_mangle]
 pub extern "C" fn card_new(record: &mut [u8], rows: u32, kinds: &[u8]) -> i32
     ensures { λ r. ⌜ Changes (new (now («record» .entry)) rows (now (kinds .entry))) r (now («record» .exit)) ⌝ }
@@ -122,7 +122,7 @@ pub extern "C" fn card_new(record: &mut [u8], rows: u32, kinds: &[u8]) -> i32
     0
 }
 
-// Whether a task fits at a column and a bottom, which may lie off the device.
+// MODEL 6.6: whether a task fits at a column and a bottom, which may lie off the device.
 fn fits_at(record: &[u8], task: &[u8], column: u32, bottom: i32) -> bool
     requires { ⌜ Given (now «record») (now task) ⌝ }
     ensures { λ r. ⌜ r ≡ fits-at (device-of (now («record» .entry))) (book-of (now («record» .entry))) (now (task .entry)) column bottom ⌝ }
@@ -156,7 +156,7 @@ fn check_place(record: &[u8], task: &[u8], number: u32, column: u32, bottom: i32
     Check::Pass
 }
 
-// Enters a task as running at a position, and takes its cells.
+// MODEL 12.4: enters a task as running at a position, and takes its cells.
 #[no_mangle]
 pub extern "C" fn card_place(
     record: &mut [u8],
@@ -190,7 +190,7 @@ fn check_release(record: &[u8], number: u32) -> Check
     Check::Pass
 }
 
-// Frees the cells of a running task and removes its entry.
+// MODEL 12.5: frees the cells of a running task and removes its entry.
 #[no_mangle]
 pub extern "C" fn card_release(record: &mut [u8], number: u32) -> i32
     ensures { λ r. ⌜ Changes (on-record (now («record» .entry)) (release number)) r (now («record» .exit)) ⌝ }
@@ -218,7 +218,7 @@ fn list_task(record: &[u8], task: &[u8], output: &mut [u8]) -> i32
     }
 }
 
-// Writes the ranges of the positions at which a task fits.
+// MODEL 12.6: writes the ranges of the positions at which a task fits.
 #[no_mangle]
 pub extern "C" fn card_list(record: &[u8], task: &[u8], output: &mut [u8]) -> i32
     ensures { λ r. ⌜ Leaves (on-record (now («record» .entry)) (list (now (task .entry)) (now (output .entry)))) r (now («record» .exit)) (now (output .exit)) ⌝ }
@@ -240,7 +240,7 @@ fn choose_task(record: &[u8], task: &[u8]) -> i32
     }
 }
 
-// The best of the positions at which a task fits, as column × 1,024 + bottom.
+// MODEL 11.6: the choice for a task, as 1,024 × column + bottom.
 #[no_mangle]
 pub extern "C" fn card_choose(record: &[u8], task: &[u8]) -> i32
     ensures { λ r. ⌜ Leaves (on-record (now («record» .entry)) (choose (now (task .entry)))) r (now («record» .exit)) [] ⌝ }
@@ -265,7 +265,7 @@ fn check_column(record: &[u8], column: u32) -> Check
     Check::Pass
 }
 
-// The number of free intervals of a column.
+// MODEL 16.1: the number of free intervals of a column.
 #[no_mangle]
 pub extern "C" fn card_interval_count(record: &[u8], column: u32) -> i32
     ensures { λ r. ⌜ Leaves (interval-count (now («record» .entry)) column) r (now («record» .exit)) [] ⌝ }
@@ -276,7 +276,7 @@ pub extern "C" fn card_interval_count(record: &[u8], column: u32) -> i32
     }
 }
 
-// A column's free intervals, four bytes each, as a part of the record; empty where the interval count is a refusal.
+// MODEL 16.2 and 16.3: a column's free intervals, as a piece of the record; empty where the interval count is a refusal.
 pub fn view(record: &[u8], column: u32) -> &[u8]
     ensures { λ r. ⌜ now r ≡ view (now («record» .entry)) column ⌝ }
 {

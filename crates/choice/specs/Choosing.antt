@@ -1,4 +1,4 @@
--- What the functions that look for the best position answer. Assumes nothing.
+-- MODEL 11: what the functions that look for the choice answer. Assumes nothing.
 use Prim.Native.Nat.{ℕ, suc, _+_, _*_, _≤_, _<_}
 use mathlib.Core.Path.{_≡_}
 use mathlib.Core.Logic.{_⊎_}
@@ -31,7 +31,7 @@ max-stretch = 2 * max-rows * max-blocks
 
 -- ---- one block
 
--- block k of B and its home
+-- MODEL 11.1: block k of B and its home, the interval in which it lies
 pub record Seated (B : Placed) (L : ℕ → List Interval) (k : ℕ) (s : Seat) : Type 0 where
   pub column : s .column ≡ B .column k
   pub bottom : s .bottom ≡ B .bottom k
@@ -47,7 +47,7 @@ pub record Seated (B : Placed) (L : ℕ → List Interval) (k : ℕ) (s : Seat) 
 abbrev pub same-home : Seat → Seat → Bool
 same-home before s = eqb (before .column) (s .column) && eqb (before .floor) (s .floor)
 
--- the piece below a block, if it is the first in its interval
+-- MODEL 11.3: the piece that is left below a block, if it is the first in its interval
 abbrev pub piece-below : Seat → Seat → ℕ
 piece-below before s = bit (not (same-home before s) && ltb (s .floor) (s .bottom))
 
@@ -57,7 +57,7 @@ pieces-of before s = piece-below before s + bit (ltb (s .top) (s .roof))
 
 -- ---- one position
 
--- the n and s of column p, bottom y, and the least room above a block
+-- MODEL 11.2 and 11.3: the n and s of column p, bottom y, and the least room above a block
 pub record Scored (d : Device) (b : Book) (t : List ℕ) (p y : ℕ) (s : Score) : Type 0 where
   pub pieces : s .pieces ≡ judge d b t .n p y
   pub stretch : s .stretch ≡ judge d b t .s p y
@@ -68,6 +68,7 @@ pub record Scored (d : Device) (b : Book) (t : List ℕ) (p y : ℕ) (s : Score)
 
 -- ---- the best so far
 
+-- its n and s are within their bounds
 abbrev pub Small : Best → Type 0
 Small Nothing = Unit {0}
 Small (At q z n s) = (n ≤ max-pieces) × (s ≤ max-stretch)
@@ -77,7 +78,7 @@ abbrev pub Is : Judge → Found → Best → Type 0
 Is J f Nothing = f ≡ nothing
 Is J f (At q z n s) = (f ≡ at q z) × (n ≡ J .n q z) × (s ≡ J .s q z)
 
--- the best of b and of column p, bottom y with its n and s: b where both are equal
+-- MODEL 11.4 and 11.5: the best of b and of column p, bottom y with its n and s; b where they are equal
 abbrev pub better-of : Best → ℕ → ℕ → ℕ → ℕ → Best
 better-of Nothing p y n s = At p y n s
 better-of (At q z m t) p y n s = cond (ltb (n * t) (m * s)) (At p y n s) (At q z m t)
@@ -96,7 +97,7 @@ pub record Climbed (J : Judge) (p y x : ℕ) (b c : Best) : Type 0 where
   pub small : Small c
   pub found : (f : Found) → Is J (climb J p y f) b → Is J (climb J p x f) c
 
--- R is a range of column p: all that it names fits, and not one step more
+-- MODEL 10.4: R is a range of column p; all that it names fits, and not one step more
 pub record FitsRange (d : Device) (b : Book) (t : List ℕ) (p : ℕ) (R : Range) : Type 0 where
   pub step-is : R .step ≡ step t
   pub last-in : Steps (step t) (R .first) (R .last)
@@ -111,7 +112,7 @@ pub record RangesAre (L : List Run) (firsts lasts : List ℕ) : Type 0 where
 
 -- ---- the answer
 
--- document 01's number of each case: "It answers column × 1,024 + bottom."; "−9: no position fits"
+-- MODEL 21.6: the number of each case, which is that of the choice (MODEL 11.6) or −9 (MODEL 13.1)
 abbrev pub answer-of : Best → ℤ
 answer-of Nothing = negℤ (pos 9)
 answer-of (At q z n s) = pos (q * column-weight + z)
@@ -121,7 +122,7 @@ abbrev pub Near : Best → Type 0
 Near Nothing = Unit {0}
 Near (At q z n s) = (q < max-columns) × (z < 2 * max-rows)
 
--- the answer of the model's call on the book: "of all fitting positions the one with least n / s", with its n and s, or none
+-- MODEL 11.5 and 14.4: e is the choice with its n and s, or nothing, and its number is the answer of the model's call on the book
 pub record Chooses (d : Device) (b : Book) (t : List ℕ) (e : Best) : Type 0 where
   pub answer-is : answer-of e ≡ on-book d b (choose t) .answer
   pub position-is : Is (judge d b t) (chosen d b t) e

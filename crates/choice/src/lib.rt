@@ -1,4 +1,4 @@
-// The best position of a task on a sound record: the score of a position, the way up a range, a column, and all columns.
+// MODEL 11: the choice for a task on a sound record. The score of a position, the way up a range, a column, and all columns.
 // Only the lowest and the highest bottom of each stretch in which no block leaves its free interval are scored: between them s stays the same
 // and n is no less (model/specs/Laws/Ends.antt).
 ghost use mathlib.Core.Path.{_≡_};
@@ -26,7 +26,7 @@ use runs::lower;
 // More room than any block has.
 const MOST_ROOM: u32 = 65535;
 
-// A block where it stands, and the bottom and the top of the free interval that holds it.
+// MODEL 11.1: a block where it stands, and the bottom and the top of the free interval that holds it.
 struct Seat {
     column: u32,
     bottom: u32,
@@ -35,7 +35,7 @@ struct Seat {
     roof: u32,
 }
 
-// A position's n and s, and the least room above a block in its interval.
+// MODEL 11.2 and 11.3: a position's n and s, and the least room above a block in its interval.
 pub struct Score {
     pub pieces: u32,
     pub stretch: u32,
@@ -116,7 +116,7 @@ fn pieces_of(before: Seat, seat: Seat) -> u32
     piece_below(before, seat) + less(seat.top, seat.roof)
 }
 
-// The score of a position at which the task fits.
+// MODEL 11.2 and 11.3: the score of a position at which the task fits.
 pub fn score_at(record: &[u8], task: &[u8], column: u32, bottom: u32) -> Score
     requires { ⌜ Given (now «record») (now task) × (fits (device-of (now «record»)) (book-of (now «record»)) (now task) column bottom ≡ true) ⌝ }
     ensures { λ r. ⌜ Scored (device-of (now («record» .entry))) (book-of (now («record» .entry))) (now (task .entry)) column bottom r ⌝ }
@@ -149,7 +149,7 @@ pub fn score_at(record: &[u8], task: &[u8], column: u32, bottom: u32) -> Score
     }
 }
 
-// The better of the best so far and a position: the one with less n / s, by cross-products, and the best so far where they are equal.
+// MODEL 11.4 and 11.5: the better of the best so far and a position, and the best so far where they are equal.
 fn consider(best: Best, column: u32, bottom: u32, pieces: u32, stretch: u32) -> Best
     requires { ⌜ Small best × (pieces ≤ max-pieces) × (stretch ≤ max-stretch) ⌝ }
     ensures { λ r. ⌜ (r ≡ better-of best column bottom pieces stretch) × Small r ⌝ }
@@ -253,7 +253,7 @@ fn climb_column(
     )
 }
 
-// The best position of a task on all columns, or nothing where no position fits.
+// MODEL 11.5: the choice for a task, or nothing where it fits at no position.
 pub fn best_position(record: &[u8], task: &[u8]) -> Best
     requires { ⌜ Given (now «record») (now task) ⌝ }
     ensures { λ r. ⌜ Chooses (device-of (now («record» .entry))) (book-of (now («record» .entry))) (now (task .entry)) r ⌝ }

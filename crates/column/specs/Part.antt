@@ -1,4 +1,5 @@
--- A column's part of the record: the intervals that it lists, what `cut` and `join` make of it, and the interval that holds a block. Assumes nothing.
+-- MODEL 8.3, 12.4 and 12.5: a column's part of the record, the intervals that it lists, what `cut` and `join` make of it, and the interval that holds
+-- a block. Assumes nothing.
 use Prim.Native.Nat.{ℕ, zero, suc, _+_, _*_, _≤_, _<_, min, max}
 use mathlib.Core.Path.{_≡_}
 use mathlib.Core.Bool.{cond, _&&_}
@@ -16,7 +17,7 @@ use Rattle.column.specs.declared.Held.the-variants.{In, Nowhere}
 
 -- ---- reading
 
--- interval i of the part p, its bottom and its top
+-- MODEL 8.3: interval i of the part p, its bottom and its top
 unfoldable pub interval-at : List ℕ → ℕ → Interval
 interval-at p i = interval (word p (interval-size * i)) (word p (interval-size * i + 2))
 
@@ -39,7 +40,7 @@ pub record Part (p : List ℕ) (n : ℕ) : Type 0 where
   pub size : length p ≡ column-size
   pub few : n ≤ max-intervals
 
--- ---- what `cut` and `join` do: f is what becomes of the list of intervals
+-- ---- what `cut` (MODEL 12.4) and `join` (MODEL 12.5) do: f is what becomes of the list of intervals
 
 -- and there is room for what it becomes
 pub record Room (f : List Interval → List Interval) (p : List ℕ) (n : ℕ) : Type 0 where
@@ -91,8 +92,9 @@ pub record Absorbed (o : List ℕ) (s : Joining) (x : Read) (q : List ℕ) (r : 
   pub bottom-small : r .bottom < words
   pub top-small : r .top < words
 
--- ---- the interval of a list that holds all half rows from b up to t: the first that does
+-- ---- the search
 
+-- MODEL 11.1: the interval of a list in which all half rows from b up to t lie, the first if there are several
 unfoldable pub holding : ℕ → ℕ → List Interval → Held
 holding b t [] = Nowhere
 holding b t (i ∷ L) = let later = holding b t L in cond (leb (i .bottom) b && leb t (i .top)) (In (record { bottom = i .bottom; top = i .top })) later

@@ -1,4 +1,4 @@
-// One column's intervals: its part, lent out of the record's middle, is cut, joined and searched.
+// MODEL 12.4 and 12.5: one column's intervals. Its part, lent out of the middle of the record (MODEL 21.5), is cut, joined and searched.
 // The part is read from its front, and what it becomes is written into a part of zeros that is copied back.
 ghost use mathlib.Core.Path.{_≡_};
 ghost use mathlib.Core.List.{[], _∷_};
@@ -17,12 +17,13 @@ use words::copy;
 use words::get16;
 use words::put16;
 
-// The half rows from bottom up to top, top excluded.
+// MODEL 7.2: the half rows from bottom up to top, top excluded.
 pub struct Interval {
     pub bottom: u32,
     pub top: u32,
 }
 
+// The interval in which all that was asked for lies.
 pub enum Held {
     In(Interval),
     Nowhere,
@@ -35,7 +36,7 @@ struct Joining {
     top: u32,
 }
 
-// Interval i of a part.
+// MODEL 8.3: interval i of a part.
 fn read(part: &[u8], i: usize) -> Interval
     requires { ⌜ (length (now part) ≡ column-size) × (i < max-intervals) ⌝ }
     ensures { λ r. ⌜ ReadAt (now (part .entry)) i r ⌝ }
@@ -85,7 +86,7 @@ fn cut_into(out: &mut [u8], part: &[u8], count: usize, bottom: u32, top: u32) ->
     n
 }
 
-// Cuts bottom..top out of the intervals of a part. The answer is how many are left.
+// MODEL 12.4: cuts bottom..top out of the intervals of a part. The answer is how many are left.
 pub fn cut(part: &mut [u8], count: usize, bottom: u32, top: u32) -> usize
     requires { ⌜ Room (subtract bottom top) (now part) count ⌝ }
     ensures { λ r. ⌜ Changed (subtract bottom top) (now (part .entry)) count (now (part .exit)) r ⌝ }
@@ -141,7 +142,7 @@ fn join_into(out: &mut [u8], part: &[u8], count: usize, bottom: u32, top: u32) -
     push(out, state.count, state.bottom, state.top)
 }
 
-// Joins bottom..top to the intervals of a part, on both sides at once. The answer is how many there are then.
+// MODEL 12.5: joins bottom..top to the intervals of a part, below and above at once. The answer is how many there are then.
 pub fn join(part: &mut [u8], count: usize, bottom: u32, top: u32) -> usize
     requires { ⌜ Joinable bottom top (now part) count ⌝ }
     ensures { λ r. ⌜ Changed (unite bottom top) (now (part .entry)) count (now (part .exit)) r ⌝ }
@@ -152,7 +153,7 @@ pub fn join(part: &mut [u8], count: usize, bottom: u32, top: u32) -> usize
     n
 }
 
-// The interval of a part that holds all half rows from bottom up to top.
+// MODEL 6.5 and 11.1: the interval of a part in which all half rows from bottom up to top lie.
 pub fn holder(part: &[u8], count: usize, bottom: u32, top: u32) -> Held
     requires { ⌜ Part (now part) count ⌝ }
     ensures { λ r. ⌜ r ≡ holding bottom top (listed-in (now (part .entry)) count) ⌝ }

@@ -1,4 +1,4 @@
--- What a line that was read says, in terms of the model's calls. Assumes nothing.
+-- MODEL 17 and 21.6: what a line that was read says, in terms of the model's calls. Assumes nothing.
 use Prim.Native.Nat.{ℕ}
 use Prim.Native.Char.{code}
 use mathlib.Core.Path.{_≡_}
@@ -14,6 +14,7 @@ use Rattle.line.specs.declared.call.Call.the-variants.{Block, Empty, Lis
 use Rattle.line.specs.declared.call.Line.{Line}
 use Rattle.line.specs.declared.call.Line.the-variants.{Does, Malformed}
 
+-- MODEL 17.8: a call of the code, as the model has it
 abbrev pub call-said : Call → SheetCall
 call-said (Block b) = add-block (b .column) (number-of (b .kind)) (b .bottom) (b .top)
 call-said Empty = empty-draft
@@ -22,12 +23,12 @@ call-said Choose = choose-draft
 call-said (Place task column bottom) = place-draft task column bottom
 call-said (Release task) = release-task task
 
--- a malformed line says nothing
+-- MODEL 17.9: what a line says; a malformed one says nothing
 abbrev pub said : Line → Option SheetCall
 said (Does call) = some (call-said call)
 said Malformed = none
 
--- document 01's number of each case: "−12: line reader: the line is malformed"
+-- MODEL 17.9 and 21.6: the number of each case
 abbrev pub answer-of : Line → ℤ
 answer-of (Does call) = pos 0
 answer-of Malformed = negℤ (pos 12)
@@ -37,11 +38,11 @@ pub record Says (r : Line) (o : Option SheetCall) : Type 0 where
   pub call-is : said r ≡ o
   pub answer-is : answer-of r ≡ line-answer o
 
--- a block call by its fields: its kind is a letter, and its task is unused
+-- MODEL 17.8: a block call by its fields; its kind is a letter, and its task is unused
 unfoldable pub block-said : ℕ → ℕ → ℕ → ℤ → ℤ → Option SheetCall
 block-said task column letter bottom top = with-some (kind-letter letter) (λ k. provided (eqb task 0) (add-block column k bottom top))
 
--- the fields that calls leave unused: kind and top; all but the task; all
+-- MODEL 17.8: the fields that calls do not use: kind and top; all but the task; all
 abbrev pub kind-unused : ℕ → ℤ → Bool
 kind-unused kind top = is (code "-") (kind ∷ []) && nought top
 

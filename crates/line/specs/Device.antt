@@ -1,4 +1,4 @@
--- What is read from the first three lines, in terms of the model's device. Assumes nothing.
+-- MODEL 17 and 21.6: what is read from line 2, in terms of the model's device. Assumes nothing.
 use Prim.Native.Nat.{ℕ}
 use mathlib.Core.Path.{_≡_}
 use mathlib.Core.Bool.{Bool, true, false}
@@ -16,6 +16,7 @@ abbrev pub known : Option (List ℕ) → Bool
 known none = false
 known (some ks) = true
 
+-- a number, 0 where there is none
 abbrev pub or-zero : Option ℕ → ℕ
 or-zero none = 0
 or-zero (some k) = k
@@ -24,6 +25,7 @@ or-zero (some k) = k
 abbrev pub kind-or-zero : ℕ → ℕ
 kind-or-zero x = or-zero (kind-letter x)
 
+-- those of some letters
 abbrev pub kinds-of : List ℕ → List ℕ
 kinds-of [] = []
 kinds-of (x ∷ l) = kind-or-zero x ∷ kinds-of l
@@ -37,7 +39,7 @@ abbrev pub kinds-left : Option Device → List ℕ → List ℕ
 kinds-left none lent = lent
 kinds-left (some d) lent = d .kinds ++ drop (length (d .kinds)) lent
 
--- document 01's number of each case: "−12: line reader: the line is malformed"
+-- MODEL 17.9 and 21.6: the number of each case
 abbrev pub answer-of : DeviceRead → ℤ
 answer-of (rows.Device n k) = pos 0
 answer-of rows.Malformed = negℤ (pos 12)

@@ -1,4 +1,4 @@
--- What the readers of a line's fields answer, in terms of the model's fields and numbers. Assumes nothing.
+-- MODEL 17: what the readers of a line's fields answer, in terms of the model's fields and numbers. Assumes nothing.
 use Prim.Native.Nat.{ℕ, suc, _+_}
 use Prim.Native.Char.{code}
 use mathlib.Core.Bool.{cond}
@@ -28,7 +28,7 @@ unfoldable pub until : ℕ → List ℕ → List ℕ
 until b [] = []
 until b (x ∷ l) = let rest = until b l in cond (eqb x b) [] (x ∷ rest)
 
--- the bytes before the first space
+-- MODEL 17.3: the bytes before the first space
 abbrev pub word : List ℕ → List ℕ
 word l = until (code " ") l
 
@@ -38,14 +38,15 @@ after s at = at + length (word (drop at s)) + 1
 
 -- ---- numbers
 
--- the greatest number that is read
+-- the greatest number that is read; no field may have a greater one (MODEL 17.7)
 abbrev pub most-read : ℕ
 most-read = 99999
 
+-- n, if it is not too great to be read
 abbrev pub small : ℕ → Digits
 small n = cond (leb n most-read) (digits.Value n) digits.None
 
--- a natural number, if it is not too great to be read
+-- the same of a natural number that a field says, and of a signed one
 abbrev pub capped : Option ℕ → Digits
 capped none = digits.None
 capped (some n) = small n
@@ -61,6 +62,7 @@ digits-of v l = cond (all-in digit l) (small (decimal v l)) digits.None
 
 -- ---- fields
 
+-- what is read of a field, with n, where the next one starts: one byte, a natural number, a bottom or a top
 abbrev pub one-byte : List ℕ → ℕ → One
 one-byte [] n = one.Bad
 one-byte (x ∷ []) n = one.Byte x n
@@ -74,7 +76,7 @@ abbrev pub height-with : Option ℤ → ℕ → Height
 height-with none n = high.Bad
 height-with (some v) n = high.Value v n
 
--- the field of s that starts at `at`, and where the next one starts
+-- MODEL 17.7: the field of s that starts at `at`, and where the next one starts
 unfoldable pub byte-at : List ℕ → ℕ → One
 byte-at s at = one-byte (word (drop at s)) (after s at)
 
@@ -84,7 +86,7 @@ natural-at s at most = natural-with (natural-field most (word (drop at s))) (aft
 unfoldable pub height-at : List ℕ → ℕ → Height
 height-at s at = height-with (height-field (word (drop at s))) (after s at)
 
--- the kind number that was read
+-- MODEL 3.3: the number of the kind that was read
 abbrev pub kind-said : KindRead → Option ℕ
 kind-said (Known k) = some (number-of k)
 kind-said Unknown = none

@@ -1,4 +1,4 @@
--- What printing leaves in a lent buffer. Assumes nothing.
+-- MODEL 18.3 and 18.4: what printing leaves in a lent buffer. Assumes nothing.
 use Prim.Native.Nat.{ℕ, _+_}
 use Prim.Native.Char.{code}
 use mathlib.Core.Path.{_≡_}
@@ -20,6 +20,6 @@ line-room = 80
 abbrev pub spaced : List ℕ → List ℕ
 spaced t = code " " ∷ t
 
--- the names line, with its newline
+-- MODEL 18.1: the names, with their newline
 abbrev pub names-line : List ℕ
 names-line = output-names ++ text "\n"

@@ -1,4 +1,4 @@
-// A block call as the six bytes of a block of a task.
+// MODEL 18.10: a block call as the six bytes of a block of a task (MODEL 4.2).
 ghost use mathlib.Core.Path.{_≡_};
 ghost use lib.ListN.{length};
 ghost use mir.Syntax.{w16};
@@ -9,7 +9,7 @@ ghost use Rattle.model.specs.Parts.{splice};
 ghost use Rattle.line.specs.Block.{call-bytes};
 use crate::call::BlockCall;
 
-// The two's complement of a number.
+// MODEL 4.3: the two's complement of a number.
 fn word(value: i16) -> u32
     ensures { λ r. ⌜ (r ≡ ofZ w16 value) × (r < words) ⌝ }
 {

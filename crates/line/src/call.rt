@@ -1,4 +1,4 @@
-// A sheet line as one of six calls.
+// MODEL 17: a sheet line as one of six calls.
 ghost use mathlib.Core.Path.{_≡_};
 ghost use mathlib.Core.List.{[], _∷_};
 ghost use Rattle.model.specs.Sheet.{provided, call-of, sheet-line};
@@ -13,7 +13,7 @@ use crate::fields::One;
 use model::Kind;
 use model::KindRead;
 
-// A block of the draft task, as a line gives it.
+// MODEL 17.8 and 21.5: a block of the draft, as a line gives it.
 pub struct BlockCall {
     pub column: u8,
     pub kind: Kind,
@@ -21,7 +21,7 @@ pub struct BlockCall {
     pub top: i16,
 }
 
-// What a sheet line asks for.
+// MODEL 17.8: what a sheet line asks for.
 pub enum Call {
     Block(BlockCall),
     Empty,
@@ -31,6 +31,7 @@ pub enum Call {
     Release { task: u16 },
 }
 
+// MODEL 17.9: what reading a line answers.
 pub enum Line {
     Does(Call),
     Malformed,
@@ -100,7 +101,7 @@ fn block(task: u16, column: u8, letter: u8, bottom: i16, top: i16) -> Line
     }))
 }
 
-// The call of a letter, if its fields have its form.
+// MODEL 17.8: the call of a letter, if its fields have its form.
 fn meaning(letter: u8, task: u16, column: u8, kind: u8, bottom: i16, top: i16) -> Line
     ensures { λ r. ⌜ said r ≡ call-of (letter ∷ []) task column (kind ∷ []) bottom top ⌝ }
 {
@@ -125,7 +126,7 @@ fn meaning(letter: u8, task: u16, column: u8, kind: u8, bottom: i16, top: i16) -
     }
 }
 
-// The call of a sheet line, without its newline.
+// MODEL 17.9: the call of a sheet line, without its newline. A field that is at fault ends the reading (MODEL 21.5).
 pub fn read(line: &[u8]) -> Line
     ensures { λ r. ⌜ Says r (sheet-line (now (line .entry))) ⌝ }
 {

@@ -1,4 +1,4 @@
-// The first three lines of a sheet: two names lines, and the line of rows and kinds between them.
+// MODEL 17.6: lines 1 to 3 of a sheet, two lines of names and the line of rows and kinds between them.
 ghost use mathlib.Core.Path.{_≡_};
 ghost use lib.ListN.{length};
 ghost use Prim.Native.Nat.{_≤_};
@@ -12,20 +12,20 @@ use crate::fields;
 use crate::fields::Natural;
 use model::KindRead;
 
-// The rows of a device and how many columns it has, if its line is well-formed.
+// MODEL 17.9: the rows of a device and how many columns it has, if its line is not malformed.
 pub enum DeviceRead {
     Device { rows: u32, count: usize },
     Malformed,
 }
 
-// Whether a line is the first names line.
+// MODEL 17.6: whether a line is line 1's names.
 pub fn is_first_names(line: &[u8]) -> bool
     ensures { λ r. ⌜ Same (now (line .entry)) first-names r ⌝ }
 {
     words::equal(line, b"rows kinds")
 }
 
-// Whether a line is the second names line.
+// MODEL 17.6: whether a line is line 3's names.
 pub fn is_second_names(line: &[u8]) -> bool
     ensures { λ r. ⌜ Same (now (line .entry)) second-names r ⌝ }
 {
@@ -68,7 +68,7 @@ fn put_kinds(letters: &[u8], kinds: &mut [u8])
     }
 }
 
-// The device of a line: its kinds go to the front of `kinds`, which stays as it was where the line is malformed.
+// MODEL 17.7 and 17.9: the device of a line. Its kinds go to the front of `kinds`, which stays as it was where the line is malformed.
 pub fn device_line(line: &[u8], kinds: &mut [u8; MAX_LINE]) -> DeviceRead
     ensures { λ r. ⌜ Reads (device-line (now (line .entry))) r (now (kinds .entry)) (now (kinds .exit)) ⌝ }
 {

@@ -1,4 +1,4 @@
-// The fields of a line, read one after the other. A field ends at the next space or at the end of the line.
+// MODEL 17.3 to 17.7: the fields of a line, read one after the other. A field ends at the next space or at the end of the line.
 ghost use mathlib.Core.Path.{_≡_};
 ghost use lib.ListN.{length, drop};
 ghost use Prim.Native.Nat.{_+_, _≤_, _<_};
@@ -89,7 +89,7 @@ fn run(text: &[u8], from: usize) -> Digits
     Digits::Value(v)
 }
 
-// The natural number from `from` to the end: no leading zero.
+// MODEL 17.5: the natural number from `from` to the end, without a 0 in front of other digits.
 fn whole(text: &[u8], from: usize) -> Digits
     requires { ⌜ from ≤ length (now text) ⌝ }
     ensures { λ r. ⌜ r ≡ capped (natural (drop from (now (text .entry)))) ⌝ }
@@ -106,7 +106,7 @@ fn whole(text: &[u8], from: usize) -> Digits
     run(text, from)
 }
 
-// The whole of `text` as a number, with a minus sign or without a sign: there is no "-0".
+// MODEL 17.5: the whole of `text` as a number, with a minus sign or without a sign; there is no "-0".
 fn signed(text: &[u8]) -> Num
     ensures { λ r. ⌜ r ≡ capped-number (number (now (text .entry))) ⌝ }
 {
@@ -160,7 +160,7 @@ pub fn natural_field(line: &[u8], at: usize, most: u32) -> Natural
     Natural::Value(v, end + 1)
 }
 
-// The field at `at`, if it is a number from -32,768 to 32,767.
+// MODEL 17.7: the field at `at`, if it is a bottom or a top.
 pub fn height_field(line: &[u8], at: usize) -> Height
     ensures { λ r. ⌜ r ≡ height-at (now (line .entry)) at ⌝ }
 {
@@ -180,7 +180,7 @@ pub fn height_field(line: &[u8], at: usize) -> Height
     Height::Value(v as i16, end + 1)
 }
 
-// The kind of a letter.
+// MODEL 17.7: the kind of a letter.
 pub fn kind_letter(letter: u8) -> KindRead
     ensures { λ r. ⌜ kind-said r ≡ kind-letter letter ⌝ }
 {

@@ -1,4 +1,4 @@
-// Lines of output, rendered into a lent buffer. Each function answers the place after what it wrote.
+// MODEL 18.3 and 18.4: lines of output, written into a lent buffer. Each function answers the place after what it wrote.
 ghost use mathlib.Core.Path.{_≡_};
 ghost use mathlib.Core.Bool.{true};
 ghost use lib.IntN.{pos, natAbs};
@@ -94,7 +94,7 @@ fn print_text(out: &mut [u8], at: usize, text: &[u8]) -> usize
     end
 }
 
-// The names line of the output, with its newline.
+// MODEL 18.1: the names of the output, with their newline.
 pub fn print_names(out: &mut [u8], at: usize) -> usize
     requires { ⌜ at + length names-line ≤ length (now out) ⌝ }
     ensures { λ r. ⌜ Printed (now (out .entry)) (now (out .exit)) at r names-line ⌝ }

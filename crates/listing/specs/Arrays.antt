@@ -1,4 +1,4 @@
--- Lists of runs in two arrays, one of their firsts and one of their lasts, and what the contracts on them say. Assumes nothing.
+-- Lists of runs (MODEL 10.3) in two arrays, one of their firsts and one of their lasts, and what the contracts on them say. Assumes nothing.
 use Prim.Native.Nat.{ℕ, zero, suc, _+_, _-_, _*_, _≤_, _<_}
 use mathlib.Core.Path.{_≡_}
 use mathlib.Core.Logic.{_⊎_}
@@ -54,7 +54,7 @@ pub record Puttable (firsts lasts : List ℕ) (n : ℕ) (a b : Range) : Type 0 w
 abbrev pub Joined : Range → Range → List Run → List Run → Type 0
 Joined a b O O′ = (Meets a b Empty × (O′ ≡ O)) ⊎ ((r : Range) × Both-of a b r × (O′ ≡ push (r .step) (run (r .first) (r .last)) O))
 
--- interval j of column c of the record r
+-- MODEL 8.3: interval j of column c of the record r
 abbrev pub bottom-at : List ℕ → ℕ → ℕ → ℕ
 bottom-at r c j = word r (column-at c + interval-size * j)
 
@@ -83,6 +83,6 @@ pub record Meetable (r : List ℕ) (c : ℕ) (k : model.Block) (firsts lasts : L
   pub spaced : Spaced s (read n firsts lasts)
   pub bound : (y : ℕ) → Mem s y (read n firsts lasts) → (lift ≤ y) × (y < lift + 2 * max-rows)
 
--- the runs O are those at which the block k stands free too, in column c of the record r
+-- MODEL 6.5: of the bottoms A, the runs O are those at which the block k stands free too, in column c of the record r
 abbrev pub Met : List ℕ → ℕ → model.Block → ℕ → List Run → List Run → Type 0
 Met r c k s A O = (l : ℕ) → Lcm s (height (k .kind)) l → Meeting s (height (k .kind)) l A (bottoms (k .low) (k .high) (listed-intervals r c)) O

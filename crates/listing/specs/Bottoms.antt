@@ -1,5 +1,5 @@
--- Where a block stands free in the intervals of its column, and where the first blocks of a task all do. Bottoms are counted from `lift` below half row 0
--- on, so that a block far above the first gives no negative number. Assumes nothing.
+-- MODEL 6 and 10: where a block stands free in the intervals of its column, and where the first blocks of a task all do. Bottoms are counted from
+-- `lift` below half row 0 on, so that a block far above the first gives no negative number. Assumes nothing.
 use Prim.Native.Nat.{ℕ, _+_, _-_, _*_, _≤_, _<_, max}
 use mathlib.Core.Path.{_≡_}
 use mathlib.Core.Bool.{true, cond}
@@ -14,6 +14,7 @@ use Rattle.model.specs.Tasks.{block}
 use Rattle.model.specs.Book.{Book, block-fits}
 use Rattle.model.specs.Blocks.{Common}
 
+-- how far bottoms are lifted: a block's bottom is at most `reach` above its task's, and is itself `reach` higher in the model
 abbrev pub lift : ℕ
 lift = 2 * reach
 

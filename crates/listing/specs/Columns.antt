@@ -1,4 +1,4 @@
--- What the contracts of this crate say of a task in one column of a sound record. Assumes nothing.
+-- MODEL 10: what the contracts of this crate say of a task in one column of a sound record. Assumes nothing.
 use Prim.Native.Nat.{ℕ, _+_, _-_, _*_, _/_, _≤_, _<_}
 use mathlib.Core.Path.{_≡_}
 use mathlib.Core.Bool.{Bool, true, false}
@@ -20,21 +20,21 @@ pub record Given (r t : List ℕ) : Type 0 where
   pub sized : sized t ≡ true
   pub formed : well-formed t ≡ true
 
--- whether device column c is on the device and of kind k
+-- whether column c is one of the device and has kind k
 pub record OfKind (r : List ℕ) (c k : ℕ) (q : Bool) : Type 0 where
   pub yes : q ≡ true → (c < columns (device-of r)) × (kind (device-of r) c ≡ k)
   pub none : q ≡ false → c < columns (device-of r) → kind (device-of r) c ≡ k → ⊥
 
--- block k, moved by p, stands in a device column of its kind
+-- MODEL 6.2: the column of block k, moved by p, is one of the device and has its kind
 abbrev pub On : List ℕ → List ℕ → ℕ → ℕ → Type 0
 On r t p k = (p + block t k .column < columns (device-of r)) × (kind (device-of r) (p + block t k .column) ≡ block t k .kind)
 
--- whether all blocks do
+-- whether all blocks have such a column
 pub record OnAll (r t : List ℕ) (p : ℕ) (q : Bool) : Type 0 where
   pub yes : q ≡ true → (k : ℕ) → k < blocks t → On r t p k
   pub none : q ≡ false → (k : ℕ) × (k < blocks t) × (On r t p k → ⊥)
 
--- they do
+-- a sound record and a well-formed task, all of whose blocks have such a column
 pub record Liftable (r t : List ℕ) (p : ℕ) : Type 0 where
   pub given : Given r t
   pub on : (k : ℕ) → k < blocks t → On r t p k
@@ -68,7 +68,7 @@ pub record Lifted (r t : List ℕ) (p : ℕ) (F T : List ℕ) (n : ℕ) : Type 0
   pub step : ℕ
   pub lifted : LiftedTo r t p (blocks t) n step F T
 
--- the fitting bottoms of a task in column p, as the model lists them
+-- MODEL 10.4 and 10.5: the ranges of a task in column p, as the model lists them
 abbrev pub ranges-in : Device → Book → List ℕ → ℕ → List Run
 ranges-in d b t p = runs (step t) (fits d b t p) (half-rows d)
 

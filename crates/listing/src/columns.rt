@@ -1,4 +1,4 @@
-// The ranges of a task in one column: all half rows on the first block's grid, met with one block after the other.
+// MODEL 10.4: the ranges of a task in one column. All half rows on the first block's grid are met with one block after the other.
 use crate::LIFT;
 use crate::MAX_RUNS;
 use crate::arrays::Runs;
@@ -27,7 +27,7 @@ fn of_kind(record: &[u8], c: usize, kind: Kind) -> bool
     record[model::KINDS_AT + c] == kind.number()
 }
 
-// Whether each block of the task, moved to column p, stands in a device column of its kind.
+// MODEL 6.2: whether the column of each block, moved to column p, is one of the device and has its kind.
 fn on_columns(record: &[u8], task: &[u8], p: usize) -> bool
     requires { ⌜ Given (now «record») (now task) × (p < max-columns) ⌝ }
     ensures { λ q. ⌜ OnAll (now («record» .entry)) (now (task .entry)) p q ⌝ }
@@ -125,7 +125,7 @@ fn lifted_bottoms(
     list.count
 }
 
-// The ranges of the task in column p.
+// MODEL 10.4: the ranges of the task in column p.
 pub fn column_ranges(
     record: &[u8],
     task: &[u8],

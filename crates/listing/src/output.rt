@@ -1,4 +1,4 @@
-// The whole listing: the ranges of all columns, written to the output.
+// MODEL 10.5 and 12.6: the whole listing, the ranges of all columns, written to the output.
 use crate::MAX_RUNS;
 use crate::byte;
 use crate::columns::column_ranges;
@@ -15,13 +15,13 @@ ghost use Rattle.listing.specs.Arrays.{read};
 ghost use Rattle.listing.specs.Columns.{Given};
 ghost use Rattle.listing.specs.Output.{Writable, AllWritable, column-bytes, Answers};
 
-// What a listing answers: how many ranges it wrote, or that no position fits.
+// MODEL 12.1 and 13.7: what a listing answers, how many ranges it wrote, or that no position fits.
 pub enum Listed {
     Ranges(u32),
     NoPosition,
 }
 
-// Writes a range as number n of the output.
+// MODEL 10.6: writes a range as number n of the output.
 fn write_range(output: &mut [u8], n: usize, column: usize, step: u32, first: u32, last: u32)
     requires { ⌜ Writable (length (now output)) n column step first last ⌝ }
     ensures { λ _. ⌜ now (output .exit) ≡ splice (now (output .entry)) (range-size * n) range-size (range-bytes (range-of column step (run first last))) ⌝ }
@@ -53,7 +53,7 @@ fn write_ranges(
     }
 }
 
-// Writes all ranges of the task, by rising column.
+// MODEL 12.6: writes all ranges of the task, by rising column.
 pub fn list(record: &[u8], task: &[u8], output: &mut [u8]) -> Listed
     requires { ⌜ Given (now «record») (now task) × (list-room ≤ length (now output)) ⌝ }
     ensures { λ a. ⌜ Answers a (device-of (now («record» .entry))) (book-of (now («record» .entry))) (now (task .entry)) (now (output .entry)) (now (output .exit)) ⌝ }

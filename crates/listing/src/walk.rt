@@ -1,4 +1,4 @@
-// One block along a list of bottoms: of the list, those bottoms stay at which the block stands in a free interval of its column.
+// MODEL 6.5: one block along a list of bottoms. Those bottoms stay at which the block stands in a free interval of its column.
 use crate::LIFT;
 use crate::arrays::Runs;
 use crate::arrays::put;
@@ -15,13 +15,13 @@ ghost use Rattle.model.specs.Columns.{height};
 ghost use Rattle.listing.specs.Bottoms.{range-in};
 ghost use Rattle.listing.specs.Arrays.{read, Room, IntervalAt, Meetable, Met as MetBlock};
 
-// A free interval, top excluded.
+// MODEL 7.2: a free interval, top excluded.
 struct Interval {
     bottom: u32,
     top: u32,
 }
 
-// Interval j of column c.
+// MODEL 8.3: interval j of column c.
 fn interval_at(record: &[u8], c: usize, j: usize) -> Interval
     requires { ⌜ (length (now «record») ≡ record-size) × (c < max-columns) × (j < max-intervals) ⌝ }
     ensures { λ r. ⌜ IntervalAt (now («record» .entry)) c j (r .bottom) (r .top) ⌝ }

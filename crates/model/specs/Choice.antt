@@ -1,4 +1,4 @@
--- Document 01, "Choose": n and s of a position, and the position chosen. Assumes nothing.
+-- MODEL 11: n and s of a position, and the choice. Assumes nothing.
 use Prim.Native.Nat.{ℕ, zero, suc, _*_, _-_}
 use mathlib.Core.Bool.{Bool, not, cond, _&&_}
 use mathlib.Core.List.{List, [], _∷_}
@@ -9,35 +9,36 @@ use Rattle.model.specs.Bounded.{any-below, sum-below, sum-in}
 use Rattle.model.specs.Columns.{Device, columns, half-rows}
 use Rattle.model.specs.Book.{Book, Placed, placed, covered, fits, intervals}
 
--- ---- n: "the number of free intervals that remain, after placing, inside intervals that held a block"
+-- ---- n, MODEL 11.3
 
--- block k lies in the interval i of column c
+-- MODEL 11.1: block k lies in the interval i of column c
 unfoldable pub lies : Placed → ℕ → Interval → ℕ → Bool
 lies B c i k = eqb (B .column k) c && leb (i .bottom) (B .bottom k) && leb (B .top k) (i .top)
 
--- the free intervals that remain inside the interval i of column c: the maximal runs of its half rows that no block covers
+-- MODEL 11.3: what is left, as intervals, of the interval i of column c: the maximal runs of its half rows that no block covers
 unfoldable pub left-in : Placed → ℕ → Interval → List Interval
 left-in B c i = maximal-runs (λ z. leb (i .bottom) z && not (covered B c z)) (i .top)
 
--- their number, if the interval held a block
+-- MODEL 11.3: their number, if a block lies in the interval
 unfoldable pub remaining : Placed → ℕ → Interval → ℕ
 remaining B c i = let left = length (left-in B c i) in cond (any-below (B .count) (lies B c i)) left 0
 
--- over the C columns, with the free intervals L c of column c before placing
+-- MODEL 11.3: n, over the C columns, where L c are the intervals of column c before the task is placed
 unfoldable pub pieces : Placed → ℕ → (ℕ → List Interval) → ℕ
 pieces B C L = sum-below C (λ c. sum-in (remaining B c) (L c))
 
--- ---- s: "the sum, over the blocks, of the height in half rows of the free interval that holds the block"
+-- ---- s, MODEL 11.2
 
--- the interval of L that holds half row z
+-- the interval of L in which half row z lies; an empty one where there is none
 unfoldable pub holder : List Interval → ℕ → Interval
 holder [] z = interval 0 0
 holder (i ∷ L) z = cond (leb (i .bottom) z && ltb z (i .top)) i (holder L z)
 
--- the interval that holds block k
+-- MODEL 11.1: the interval in which block k lies
 unfoldable pub home : Placed → (ℕ → List Interval) → ℕ → Interval
 home B L k = holder (L (B .column k)) (B .bottom k)
 
+-- MODEL 11.2: s, block by block the height of its interval
 unfoldable pub stretch : Placed → (ℕ → List Interval) → ℕ
 stretch B L = sum-below (B .count) (λ k. home B L k .top - home B L k .bottom)
 
@@ -49,6 +50,7 @@ pub record Judge : Type 0 where
   pub n : ℕ → ℕ → ℕ
   pub s : ℕ → ℕ → ℕ
 
+-- MODEL 11.1: the judge of a task on a device with a book
 unfoldable pub judge : Device → Book → List ℕ → Judge
 judge d b t = record {
   fit = fits d b t;
@@ -61,11 +63,11 @@ pub data Found : Type 0 where
   nothing : Found
   at : (column bottom : ℕ) → Found
 
--- (p, y) is better than (q, z): its n / s is less, "compared by cross-products"
+-- MODEL 11.4: (p, y) is better than (q, z)
 unfoldable pub better : Judge → ℕ → ℕ → ℕ → ℕ → Bool
 better J p y q z = ltb (J .n p y * J .s q z) (J .n q z * J .s p y)
 
--- the best so far, once (p, y) is seen too: on a tie the earlier one stays
+-- MODEL 11.5: the best so far, once (p, y) is seen too. Among equals the earlier one stays.
 unfoldable pub see : Judge → ℕ → ℕ → Found → Found
 see J p y nothing = at p y
 see J p y (at q z) = cond (better J p y q z) (at p y) (at q z)
@@ -75,11 +77,11 @@ unfoldable pub climb : Judge → ℕ → ℕ → Found → Found
 climb J p zero f = f
 climb J p (suc y) f = let r = climb J p y f in cond (J .fit p y) (see J p y r) r
 
--- the best of the first c columns, at bottoms below h: "ties go to the lower column, then the lower bottom"
+-- MODEL 11.5: the best of the first c columns, at bottoms below h. Lower columns are seen first, and in a column lower bottoms.
 unfoldable pub choice : Judge → ℕ → ℕ → Found
 choice J h zero = nothing
 choice J h (suc c) = climb J c h (choice J h c)
 
--- "of all fitting positions the one with least n / s"
+-- MODEL 11.5: the choice for a task
 unfoldable pub chosen : Device → Book → List ℕ → Found
 chosen d b t = choice (judge d b t) (half-rows d) (columns d)

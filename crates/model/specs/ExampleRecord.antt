@@ -1,4 +1,4 @@
--- Document 01, "The record", on K3's card: all bytes of the record that are not 0, before and after line 8 of the sheet places the task, each with its
+-- MODEL 8: the record on K3's card, before and after line 8 of the example (MODEL 18.14) places the task: all bytes that are not 0, each with its
 -- offset, computed from the definitions. So the layout is seen in two tables of plain numbers. Assumes nothing.
 use Prim.Native.Nat.{ℕ, suc}
 use mathlib.Core.Path.{_≡_, refl}
@@ -45,8 +45,9 @@ seen cs =
     let r = record-of K3 (t .final) in
     record { answers = t .answers; size = length r; bytes = non-zero 0 r }
 
--- ---- the tables
+-- ---- the tables, MODEL 8.2 to 8.5
 
+-- no task runs
 pub before : List Byte
 before =
     byte 0 5  -- rows
@@ -60,6 +61,7 @@ before =
     ∷ byte 646 10  -- column 2: 0–10
     ∷ []
 
+-- the task of lines 4 to 6 runs under number 7, at column 0 and bottom 4
 pub after : List Byte
 after =
     byte 0 5

@@ -1,4 +1,4 @@
--- Document 01's example sheet: the program's output, computed from the definitions. Assumes nothing.
+-- MODEL 18: the output for the example of document 01, computed from the definitions. Assumes nothing.
 use mathlib.Core.Path.{_≡_, refl}
 use Rattle.runs.specs.Runs.{runs, push}
 use Rattle.runs.specs.Intervals.{intervals as maximal-runs}
@@ -14,7 +14,7 @@ use Rattle.model.specs.Calls.{lent, refused, no-position, runs-in, refus
 use Rattle.model.specs.Sheet.{text, fields, is, digit, decimal, natural as natural-of, number, natural-field, height-field, kind-letter, kind-field, call-of, six, sheet-line, kind-letters, kinds-field, device-line, digits, shown, output-line}
 use Rattle.model.specs.Program.{block-bytes, on-call, on-line, on-lines, same-line, third, second, first, lines, program}
 
--- THEOREM: the example's input gives the example's output, byte for byte
+-- THEOREM: the example's input gives the example's output, byte for byte (MODEL 18.14)
 pub example-sheet : program (text "rows kinds\n5 CCB\ncall task column kind bottom top\nB 0 0 C 0 2\nB 0 1 C -2 2\nB 0 2 B 1 6\nL 0 0 - 0 0\nP 7 0 - 4 0\nL 0 0 - 0 0\nN 0 0 - 0 0\nB 0 0 C 0 4\nL 0 0 - 0 0\nC 0 0 - 0 0\nR 8 0 - 0 0\nR 7 0 - 0 0\n")
     ≡ text "line answer column first step last\n7 1 0 4 10 4\n8 0 0 0 0 0\n9 -9 0 0 0 0\n12 3 0 0 2 0\n12 3 0 6 2 6\n12 3 1 6 2 6\n13 0 0 0 0 0\n14 -11 0 0 0 0\n15 0 0 0 0 0\n"
 unfolding all-below any-below sum-below join-below all-in any-in sum-in join-in runs push maximal-runs

@@ -1,4 +1,4 @@
--- Document 01, "Histories and their book": a list of calls on one record, and the book that follows it. Assumes nothing.
+-- MODEL 14: a list of calls on one record, and the book of a history. Assumes nothing.
 use Prim.Native.Nat.{ℕ}
 use mathlib.Core.List.{List, [], _∷_}
 use lib.IntN.{ℤ}
@@ -13,7 +13,7 @@ pub record Trace (S : Type 0) : Type 0 where
   pub outputs : List (List ℕ)
   pub final : S
 
--- "Each call .. gets the record as the call before it left it"
+-- MODEL 14.2: each call finds the state as the previous one left it
 unfoldable pub trace : {S : Type 0} → (S → Call → Outcome S) → S → List Call → Trace S
 trace step s [] = record { answers = []; outputs = []; final = s }
 trace step s (c ∷ cs) =
@@ -21,10 +21,10 @@ trace step s (c ∷ cs) =
     let rest = trace step (l .state) cs in
     record { answers = l .answer ∷ rest .answers; outputs = l .output ∷ rest .outputs; final = rest .final }
 
--- the calls on a record
+-- MODEL 14.1 and 14.2: the calls on a record
 unfoldable pub on-records : List ℕ → List Call → Trace (List ℕ)
 on-records r cs = trace on-record r cs
 
--- "The book of a history follows it from the device that new was given and the calls' arguments, and never reads the record. It .. begins with none."
+-- MODEL 14.3: the same calls on the book, which begins with no task
 unfoldable pub book-of-history : Device → List Call → Trace Book
 book-of-history d cs = trace (on-book d) [] cs

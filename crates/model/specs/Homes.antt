@@ -1,4 +1,4 @@
--- Blocks in the free intervals that hold them, as the contracts of crate `choice` say it. Assumes nothing.
+-- Blocks in the intervals in which they lie (MODEL 11.1), as the contracts of crate `choice` say it. Assumes nothing.
 use Prim.Native.Nat.{ℕ, _+_, _≤_, _<_}
 use mathlib.Core.Bool.{Bool, true, false}
 use mathlib.Core.List.{List}

@@ -1,4 +1,4 @@
--- What is proved of document 01's definitions, from the tools up.
+-- What is proved of the model's definitions, from the tools up.
 pub mod Bounded
 -- lists and bytes
 pub mod Changed

@@ -1,4 +1,4 @@
--- Document 01's definitions, a file for each of its sections. What is proved of them stands under Laws.
+-- The definitions of docs/MODEL.md, clause by clause. What is proved of them stands under Laws.
 pub mod Limits
 pub mod Bounded
 pub mod Columns

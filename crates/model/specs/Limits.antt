@@ -1,24 +1,29 @@
--- The limits, lengths and byte offsets of document 01. Each stands here once, and everything else uses its name. Assumes nothing.
+-- MODEL 2: the limits; and the sizes and byte offsets of the layouts, and the ranges of a sheet's fields. Each stands here once, and everything else
+-- uses its name. Assumes nothing.
 use Prim.Native.Nat.{ℕ}
 
--- "A device has rows (1 to 128) and columns (1 to 64)"; the highest kind is 2
+-- ---- devices, tasks and books
+
+-- MODEL 2.2: rows of a device
 abbrev pub max-rows : ℕ
 max-rows = 128
 
+-- MODEL 2.3: its columns
 abbrev pub max-columns : ℕ
 max-columns = 64
 
+-- MODEL 3.3: the highest number of a kind
 abbrev pub max-kind : ℕ
 max-kind = 2
 
--- "A task is 1 to 32 blocks of 6 bytes"
+-- MODEL 2.4: blocks of a task
 abbrev pub max-blocks : ℕ
 max-blocks = 32
 
+-- MODEL 4.2: the bytes of a block, and where all but its column stand
 abbrev pub block-size : ℕ
 block-size = 6
 
--- "column (1), kind (1), bottom and top (2 each ..)": where the last three stand in a block
 abbrev pub block-kind-at : ℕ
 block-kind-at = 1
 
@@ -28,30 +33,32 @@ block-bottom-at = 2
 abbrev pub block-top-at : ℕ
 block-top-at = 4
 
--- "bottom is at least −256, top at most 256"
+-- MODEL 2.5: how far a block may go below and above the bottom of its task
 abbrev pub reach : ℕ
 reach = 256
 
--- "running tasks (1, at most 64)", "running numbers are 1 to 65,535"
+-- MODEL 2.6: tasks that run at one time
 abbrev pub max-running : ℕ
 max-running = 64
 
+-- MODEL 2.7: the highest number of a task
 abbrev pub max-number : ℕ
 max-number = 65535
 
--- how many numbers one byte holds, and two bytes
+-- how many numbers one byte holds, and two bytes (MODEL 4.3)
 abbrev pub bytes : ℕ
 bytes = 256
 
 abbrev pub words : ℕ
 words = 65536
 
--- ---- the record: "29,188 bytes"
+-- ---- the record
 
+-- MODEL 8.1: its length
 abbrev pub record-size : ℕ
 record-size = 29188
 
--- "Rows (2 bytes), columns (1), running tasks (1, at most 64)": where these stand
+-- MODEL 8.2: where the rows, the number of columns and the number of running tasks stand, and the bytes up to the kinds
 abbrev pub rows-at : ℕ
 rows-at = 0
 
@@ -64,37 +71,39 @@ running-at = 3
 abbrev pub head-size : ℕ
 head-size = 4
 
--- "64 kind bytes; 64 interval counts"
+-- MODEL 8.2: where the kinds stand, and the numbers of intervals
 abbrev pub kinds-at : ℕ
 kinds-at = 4
 
 abbrev pub counts-at : ℕ
 counts-at = 68
 
--- "for each of 64 columns 64 intervals of bottom (2) and top (2)", "Column c's intervals start at byte 132 + 256 × c"
+-- MODEL 8.2: where the part of column 0 stands, and the bytes of a part
 abbrev pub intervals-at : ℕ
 intervals-at = 132
 
 abbrev pub column-size : ℕ
 column-size = 256
 
+-- MODEL 2.8: places for intervals in a column
 abbrev pub max-intervals : ℕ
 max-intervals = 64
 
+-- MODEL 8.3: the bytes of an interval, and where its top stands
 abbrev pub interval-size : ℕ
 interval-size = 4
 
 abbrev pub interval-top-at : ℕ
 interval-top-at = 2
 
--- "64 running entries of 198 bytes: task number (2), column (1), block count (1), bottom (2), 32 blocks", "the running part at byte 16,516",
--- "The block bytes of an entry are read from its seventh byte on"
+-- MODEL 8.2: where entry 0 stands, and the bytes of an entry
 abbrev pub entries-at : ℕ
 entries-at = 16516
 
 abbrev pub entry-size : ℕ
 entry-size = 198
 
+-- MODEL 8.4: where all of an entry but its number stands
 abbrev pub entry-column-at : ℕ
 entry-column-at = 2
 
@@ -109,14 +118,14 @@ blocks-at = 6
 
 -- ---- the calls
 
--- "list: output under 24,576 bytes", "ranges of 6 bytes"
+-- MODEL 2.9: bytes that the output of list has at least
 abbrev pub list-room : ℕ
 list-room = 24576
 
+-- MODEL 10.6: the bytes of a range, and where all but its column stand
 abbrev pub range-size : ℕ
 range-size = 6
 
--- "column (1), step (1), first (2), last (2)": where the last three stand in a range
 abbrev pub range-step-at : ℕ
 range-step-at = 1
 
@@ -126,20 +135,21 @@ range-first-at = 2
 abbrev pub range-last-at : ℕ
 range-last-at = 4
 
--- "It answers column × 1,024 + bottom"
+-- MODEL 11.6: what a column counts for in a choice
 abbrev pub column-weight : ℕ
 column-weight = 1024
 
 -- ---- the sheet
 
--- "a line has at most 80 bytes without its newline", "standard input of up to 32,768 bytes"
+-- MODEL 2.10: bytes in a line, without its newline
 abbrev pub max-line : ℕ
 max-line = 80
 
+-- MODEL 2.11: bytes of a sheet
 abbrev pub max-sheet : ℕ
 max-sheet = 32768
 
--- "Task is 0 to 65,535, column 0 to 255, bottom and top −32,768 to 32,767, rows 0 to 65,535"
+-- MODEL 17.7: the highest task, rows and column, and the highest bottom or top; the lowest bottom or top is −32,768
 abbrev pub max-task-field : ℕ
 max-task-field = 65535
 

@@ -1,4 +1,5 @@
--- Document 01, "The sheet": how a line is read, and how a line of output is printed. A line that is read as nothing is malformed: −12. Assumes nothing.
+-- MODEL 17: how a line of a sheet is read; and how a line of output is printed (MODEL 18.3). A line that is read as nothing is malformed.
+-- Assumes nothing.
 use Prim.Native.Nat.{ℕ, zero, suc, _+_, _-_, _*_, _/_, _%_}
 use Prim.Native.Char.{code}
 use Prim.Native.String.{String, [] as end, _∷_ as _then_}
@@ -35,7 +36,7 @@ abbrev pub grown : ℕ → List (List ℕ) → List (List ℕ)
 grown x [] = (x ∷ []) ∷ []
 grown x (f ∷ fs) = (x ∷ f) ∷ fs
 
--- "Fields are parted by one space": what stands between the spaces
+-- MODEL 17.3 and 17.4: what stands between the spaces
 unfoldable pub fields : List ℕ → List (List ℕ)
 fields [] = [] ∷ []
 fields (x ∷ l) = let rest = fields l in cond (eqb x (code " ")) ([] ∷ rest) (grown x rest)
@@ -44,8 +45,9 @@ fields (x ∷ l) = let rest = fields l in cond (eqb x (code " ")) ([] ∷ rest) 
 unfoldable pub is : ℕ → List ℕ → Bool
 is x f = eqb (length f) 1 && eqb (getD f 0 0) x
 
--- ---- "Numbers read and printed are decimal, without plus sign, leading zero or "-0"."
+-- ---- numbers, MODEL 17.5
 
+-- a decimal digit
 unfoldable pub digit : ℕ → Bool
 digit x = leb (code "0") x && leb x (code "9")
 
@@ -54,54 +56,55 @@ unfoldable pub decimal : ℕ → List ℕ → ℕ
 decimal v [] = v
 decimal v (x ∷ l) = decimal (10 * v + (x - code "0")) l
 
--- one or more digits, of which the first is no 0 unless it stands alone
+-- MODEL 17.5: one or more digits, of which the first is no 0 unless it stands alone
 unfoldable pub natural : List ℕ → Option ℕ
 natural [] = none
 natural (x ∷ l) = provided (all-in digit (x ∷ l) && (not (eqb x (code "0")) || eqb (length l) 0)) (decimal 0 (x ∷ l))
 
--- with a minus sign: there is no "-0"
+-- MODEL 17.5: with a minus sign, where there is no "-0"
 abbrev pub negated : Option ℕ → Option ℤ
 negated none = none
 negated (some zero) = none
 negated (some (suc n)) = some (negsuc n)
 
--- with no sign, or with a minus sign
+-- MODEL 17.5: with no sign, or with a minus sign
 unfoldable pub number : List ℕ → Option ℤ
 number [] = none
 number (x ∷ l) = let plain = with-some (natural (x ∷ l)) (λ n. some (pos n)) in cond (eqb x (code "-")) (negated (natural l)) plain
 
--- a number from 0 to `most`
+-- MODEL 17.7: a field that is a number from 0 to `most`
 unfoldable pub natural-field : ℕ → List ℕ → Option ℕ
 natural-field most f = with-some (natural f) (λ n. provided (leb n most) n)
 
--- "bottom and top −32,768 to 32,767"
+-- MODEL 17.7: a bottom or a top
 unfoldable pub height-field : List ℕ → Option ℤ
 height-field f = with-some (number f) (λ z. provided (leZ (negsuc max-height-field) z && leZ z (pos max-height-field)) z)
 
 -- ---- the six calls
 
--- "Each sheet line is one of six calls, and a block call carries its kind."
+-- MODEL 17.8: a call of a sheet, with the fields that it uses
 pub data SheetCall : Type 0 where
-  add-block : (column kind : ℕ) (bottom top : ℤ) → SheetCall  -- "B adds a block (column, kind, bottom, top) to a draft task"
-  empty-draft : SheetCall  -- "N empties the draft"
-  list-draft : SheetCall  -- "L lists"
-  choose-draft : SheetCall  -- "C chooses"
-  place-draft : (task column : ℕ) (bottom : ℤ) → SheetCall  -- "P places the draft (task, column, bottom)"
-  release-task : (task : ℕ) → SheetCall  -- "R releases (task)"
+  add-block : (column kind : ℕ) (bottom top : ℤ) → SheetCall  -- B
+  empty-draft : SheetCall  -- N
+  list-draft : SheetCall  -- L
+  choose-draft : SheetCall  -- C
+  place-draft : (task column : ℕ) (bottom : ℤ) → SheetCall  -- P
+  release-task : (task : ℕ) → SheetCall  -- R
 
--- the kind of a letter
+-- MODEL 17.7: the number of the kind that a letter says
 unfoldable pub kind-letter : ℕ → Option ℕ
 kind-letter x = cond (eqb x (code "C")) (some kind-C) (cond (eqb x (code "B")) (some kind-B) (cond (eqb x (code "D")) (some kind-D) none))
 
+-- MODEL 17.7: a field that is one such letter
 unfoldable pub kind-field : List ℕ → Option ℕ
 kind-field f = cond (eqb (length f) 1) (kind-letter (getD f 0 0)) none
 
--- "Unused fields are 0, an unused kind is "-"."
+-- MODEL 17.8: a number that a call does not use is 0
 abbrev pub nought : ℤ → Bool
 nought (pos n) = eqb n 0
 nought (negsuc n) = false
 
--- the call that a line's fields say, with its numbers read: each letter with the fields that it leaves unused
+-- MODEL 17.8: the call that six fields say, their numbers being read: by its letter, if the fields that it does not use are 0 or "-"
 unfoldable pub call-of : List ℕ → ℕ → ℕ → List ℕ → ℤ → ℤ → Option SheetCall
 call-of letter task column kind bottom top =
     let none-used = eqb task 0 && eqb column 0 && is (code "-") kind && nought bottom && nought top in
@@ -113,7 +116,7 @@ call-of letter task column kind bottom top =
     (cond (is (code "R") letter) (provided (eqb column 0 && is (code "-") kind && nought bottom && nought top) (release-task task))
     none)))))
 
--- the line "call task column kind bottom top" as numbers and letters
+-- MODEL 17.6 and 17.7: six fields, in the order that line 3 names
 unfoldable pub six : List (List ℕ) → Option SheetCall
 six fs =
     with-some (natural-field max-task-field (getD fs 1 [])) (λ task.
@@ -122,12 +125,13 @@ six fs =
     with-some (height-field (getD fs 5 [])) (λ top.
     call-of (getD fs 0 []) task column (getD fs 3 []) bottom top))))
 
--- one line, without its newline: "a line has at most 80 bytes", "A line of any other form is malformed."
+-- MODEL 17.2, 17.6 and 17.9: a line from line 4 on, without its newline
 unfoldable pub sheet-line : List ℕ → Option SheetCall
 sheet-line l = let read = six (fields l) in cond (leb (length l) max-line && eqb (length (fields l)) 6) read none
 
 -- ---- the first three lines
 
+-- MODEL 17.6: line 1, and line 3
 abbrev pub first-names : List ℕ
 first-names = text "rows kinds"
 
@@ -139,12 +143,12 @@ unfoldable pub kind-letters : List ℕ → Option (List ℕ)
 kind-letters [] = some []
 kind-letters (x ∷ l) = with-some (kind-letter x) (λ k. with-some (kind-letters l) (λ ks. some (k ∷ ks)))
 
--- "Kinds is one or more of the letters C, B, D"
+-- MODEL 17.7: one letter or more
 unfoldable pub kinds-field : List ℕ → Option (List ℕ)
 kinds-field [] = none
 kinds-field (x ∷ l) = kind-letters (x ∷ l)
 
--- "rows 0 to 65,535": the device that the second line says, for new to judge
+-- MODEL 17.6, 17.7 and 17.9: line 2, as what new is called with (MODEL 18.6)
 unfoldable pub device-line : List ℕ → Option Device
 device-line l =
     let read : Option Device = with-some (natural-field max-rows-field (getD (fields l) 0 [])) (λ rows. with-some (kinds-field (getD (fields l) 1 [])) (λ kinds.
@@ -153,7 +157,7 @@ device-line l =
 
 -- ---- the line reader's answer
 
--- "−12: line reader: the line is malformed", be it a call's line or the device's; 0 where it is read
+-- MODEL 17.9: 0 where a line is read, be it as a call or as a device, and −12 where it is malformed
 abbrev pub line-answer : {A : Type 0} → Option A → ℤ
 line-answer none = negℤ (pos 12)
 line-answer (some a) = pos 0
@@ -165,15 +169,16 @@ unfoldable pub digits : ℕ → ℕ → List ℕ
 digits zero n = (code "0" + n) ∷ []
 digits (suc more) n = let front = digits more (n / 10) in cond (ltb n 10) ((code "0" + n) ∷ []) (front ++ ((code "0" + n % 10) ∷ []))
 
--- a number as it is printed: ten digits are enough for every answer
+-- MODEL 17.5: a number as it is printed; ten digits are enough for every answer
 unfoldable pub shown : ℤ → List ℕ
 shown (pos n) = digits 9 n
 shown (negsuc n) = code "-" ∷ digits 9 (suc n)
 
+-- MODEL 18.1: the names that are printed first
 abbrev pub output-names : List ℕ
 output-names = text "line answer column first step last"
 
--- "input line, answer, and for each range its column, first, step, last, else zeros", with its newline
+-- MODEL 18.3 and 18.4: a line that is printed, with its newline
 unfoldable pub output-line : ℕ → ℤ → ℕ → ℕ → ℕ → ℕ → List ℕ
 output-line line answer column first step last =
     shown (pos line) ++ text " " ++ shown answer ++ text " " ++ shown (pos column) ++ text " " ++ shown (pos first) ++ text " " ++ shown (pos step)

@@ -1,4 +1,5 @@
--- How some lines of a sheet are read, and one is printed: document 01's example, and lines that are malformed. Computed. Assumes nothing.
+-- MODEL 17 and 18: how some lines are read, and how one is printed; lines of the example (MODEL 18.14), and malformed ones. Computed.
+-- Assumes nothing.
 use Prim.Native.Nat.{ℕ}
 use mathlib.Core.Path.{_≡_, refl}
 use mathlib.Core.Option.{Option, none, some}
@@ -18,6 +19,7 @@ says l c = record { line = l; call = some c }
 abbrev malformed : List ℕ → Said
 malformed l = record { line = l; call = none }
 
+-- the lines: calls first, and then malformed lines
 pub lines : List Said
 lines =
     says (text "B 0 0 C 0 2") (add-block 0 0 (pos 0) (pos 2))
@@ -54,12 +56,12 @@ lines =
     ∷ malformed (text "L 0 0 - 0 0\r")
     ∷ []
 
--- THEOREM
+-- THEOREM: each is read as it says, or as malformed (MODEL 17.9)
 pub lines-read : map (λ (s : Said). sheet-line (s .line)) lines ≡ map (λ (s : Said). s .call) lines
 unfolding lines all-in fields is digit decimal natural number natural-field height-field kind-letter kind-field call-of six sheet-line
 lines-read = refl
 
--- line 2 of document 01's sheet, and what its line 14 prints
+-- MODEL 18.14: line 2, and what line 14 prints
 pub rows-read : device-line (text "5 CCB") ≡ some (record { rows = 5; kinds = 0 ∷ 0 ∷ 1 ∷ [] })
 unfolding all-in fields is digit decimal natural natural-field kind-letter kind-letters kinds-field device-line
 rows-read = refl

@@ -1,4 +1,4 @@
--- Document 01, "Small cards, by hand": K1 to K10, rows of one table under one theorem, computed from the definitions. Assumes nothing.
+-- MODEL 19: the small cards K1 to K10, one table with one theorem about it (MODEL 21.3), computed from the definitions. Assumes nothing.
 use Prim.Native.Nat.{ℕ}
 use mathlib.Core.Path.{_≡_, refl}
 use mathlib.Core.List.{List, [], _∷_, _++_, map}
@@ -48,7 +48,7 @@ left d cs = join-in (λ i. i .bottom ∷ i .top ∷ []) (intervals d (book-of-hi
 unfoldable score : Device → List ℕ → ℕ → ℕ → List ℕ
 score d t p y = pieces (placed t p y) (columns d) (intervals d []) ∷ stretch (placed t p y) (intervals d []) ∷ []
 
--- a row: which card, what the definitions give, and what document 01 states
+-- a row: which card, what the definitions give, and what MODEL 19.1 states
 pub record Row : Type 0 where
   pub card : ℕ
   pub found : List ℤ
@@ -64,7 +64,7 @@ numbers = map pos
 abbrev room : List ℕ
 room = replicate list-room 0
 
--- ---- the cards and tasks
+-- ---- the cards and tasks, MODEL 19.1
 
 K1 : Device
 K1 = card 2 (1 ∷ [])
@@ -97,11 +97,11 @@ C-4 = C-block 0 0 4
 B-5 : List ℕ
 B-5 = B-block 0 0 5
 
--- lines 4 to 6 of the sheet
+-- MODEL 18.14: the draft of lines 4 to 6
 unfoldable pub lines-4-6 : List ℕ
 lines-4-6 = C-block 0 0 2 ++ block-bytes 1 0 (negsuc 1) (pos 2) ++ B-block 2 1 6
 
--- the same placed by line 8
+-- MODEL 18.14: the same placed by line 8
 unfoldable pub line-8 : List Call
 line-8 = place lines-4-6 7 0 (pos 4) ∷ []
 
@@ -111,7 +111,7 @@ K4-task = B-block 0 0 5 ++ C-block 1 1 3
 K5-task : List ℕ
 K5-task = C-block 0 0 2 ++ B-block 1 0 5
 
--- "half rows 2–4 of column 0 are held"; K7: "2–4 and 4–6 held"
+-- 2–4 of column 0 is held, as on K5; 2–4 and 4–6 are, by two tasks, as on K7
 held-2-4 : List Call
 held-2-4 = place C-2 1 0 (pos 2) ∷ []
 
@@ -120,6 +120,7 @@ held-2-6 = held-2-4 ++ (place C-2 2 0 (pos 4) ∷ [])
 
 -- ---- the table
 
+-- MODEL 19.1: K8 and K9 are tried on the cards of K7 and K2
 pub table : List Row
 table =
     row 1 (numbers (cells K1 0 ∷ [])) (numbers (0 ∷ []))
@@ -142,7 +143,7 @@ table =
     ∷ row 10 (answers K3 (line-8 ++ (list C-4 room ∷ choose C-4 ∷ []))) (pos 0 ∷ pos 3 ∷ pos 0 ∷ [])
     ∷ []
 
--- THEOREM: the definitions give what document 01 states, card by card
+-- THEOREM: the definitions give what MODEL 19.1 states, card by card
 pub small-cards : map (λ (r : Row). r .found) table ≡ map (λ (r : Row). r .stated) table
 unfolding K1 K2 K3 K4 K5 K6 K7 C-2 C-4 B-5 lines-4-6 line-8 K4-task K5-task held-2-4 held-2-6 table listed answers left score block-bytes
     all-below any-below sum-below join-below those-below all-in any-in sum-in join-in

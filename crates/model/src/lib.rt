@@ -1,4 +1,4 @@
-// The model of document 01. Its definitions stand in specs/, what is proved of them in specs/Laws.
+// The model (docs/MODEL.md). Its definitions stand in specs/, what is proved of them in specs/Laws.
 // The code here is the kind of a column, and the limits, lengths and offsets that all other crates use.
 ghost use mathlib.Core.Path.{_≡_};
 ghost use Prim.Native.Nat.{_≤_};
@@ -6,7 +6,7 @@ ghost use Rattle.model.specs.Limits.{max-rows};
 ghost use Rattle.model.specs.Columns.{height, cells-in, top-in};
 ghost use Rattle.model.specs.Kinds.{number-of, kind-of};
 
-// The limits of a device, a task and a book.
+// MODEL 2.2 to 2.8: the limits; and the highest number of a kind (MODEL 3.3).
 pub const MAX_ROWS: u32 = 128;
 
 pub const MAX_COLUMNS: usize = 64;
@@ -28,7 +28,7 @@ pub const BYTES: u32 = 256;
 
 pub const WORDS: u32 = 65536;
 
-// The record's length, and where its parts stand.
+// MODEL 8.1 and 8.2: the record's length, and where its parts stand.
 pub const RECORD_SIZE: usize = 29188;
 
 pub const ROWS_AT: usize = 0;
@@ -47,12 +47,12 @@ pub const COLUMN_SIZE: usize = 256;
 
 pub const ENTRIES_AT: usize = 16516;
 
-// An interval: its bottom stands first.
+// MODEL 8.3: an interval. Its bottom stands first.
 pub const INTERVAL_SIZE: usize = 4;
 
 pub const INTERVAL_TOP_AT: usize = 2;
 
-// A running entry: its number stands first.
+// MODEL 8.4: a running entry. Its number stands first.
 pub const ENTRY_SIZE: usize = 198;
 
 pub const ENTRY_COLUMN_AT: usize = 2;
@@ -63,7 +63,7 @@ pub const ENTRY_BOTTOM_AT: usize = 4;
 
 pub const BLOCKS_AT: usize = 6;
 
-// A block: its column stands first.
+// MODEL 4.2: a block. Its column stands first.
 pub const BLOCK_SIZE: usize = 6;
 
 pub const BLOCK_KIND_AT: usize = 1;
@@ -72,7 +72,7 @@ pub const BLOCK_BOTTOM_AT: usize = 2;
 
 pub const BLOCK_TOP_AT: usize = 4;
 
-// A listed range: its column stands first.
+// MODEL 10.6: a listed range. Its column stands first.
 pub const RANGE_SIZE: usize = 6;
 
 pub const RANGE_STEP_AT: usize = 1;
@@ -81,13 +81,13 @@ pub const RANGE_FIRST_AT: usize = 2;
 
 pub const RANGE_LAST_AT: usize = 4;
 
-// The least output of a listing.
+// MODEL 2.9: the least output of a listing.
 pub const LIST_ROOM: usize = 24576;
 
-// What choose multiplies a column by in its answer.
+// MODEL 11.6: what choose multiplies a column by in its answer.
 pub const COLUMN_WEIGHT: u32 = 1024;
 
-// The kind of a column: logic (CLB), memory (BRAM) or multiplier (DSP).
+// MODEL 3.3: the kind of a column: logic (CLB), memory (BRAM) or multiplier (DSP).
 pub enum Kind {
     C,
     B,
@@ -101,7 +101,7 @@ pub enum KindRead {
 }
 
 impl Kind {
-    // Heights in half rows.
+    // MODEL 3.3: heights in half rows.
     pub const C_HEIGHT: u32 = 2;
 
     pub const B_HEIGHT: u32 = 5;
@@ -118,7 +118,7 @@ impl Kind {
         }
     }
 
-    // The whole cells of a column of this kind. Here and below each kind has its own constant: through `height` it would be slower.
+    // MODEL 3.4: the cells of a column of this kind. Here and below each kind has its own constant: through `height` it would be slower.
     pub fn cells(self, rows: u32) -> u32
         requires { ⌜ rows ≤ max-rows ⌝ }
         ensures { λ r. ⌜ r ≡ cells-in rows (number-of self) ⌝ }
@@ -130,7 +130,7 @@ impl Kind {
         }
     }
 
-    // The top of the last of them: what lies above is no cell.
+    // MODEL 3.6: the top of such a column.
     pub fn top(self, rows: u32) -> u32
         requires { ⌜ rows ≤ max-rows ⌝ }
         ensures { λ r. ⌜ r ≡ top-in rows (number-of self) ⌝ }

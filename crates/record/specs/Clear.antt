@@ -1,4 +1,4 @@
--- What the contracts of `clear` say. Assumes nothing.
+-- MODEL 12.3: what the contracts of `clear` say. Assumes nothing.
 use Prim.Native.Nat.{ℕ, _+_, _<_}
 use mathlib.Core.Path.{_≡_}
 use mathlib.Core.List.{List, []}

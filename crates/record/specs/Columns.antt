@@ -1,4 +1,4 @@
--- The intervals of a column: what a record lists, and the runs of half rows that pass a test. Assumes nothing.
+-- MODEL 7 and 8.3: the intervals of a column, what a record lists, and the runs of half rows that pass a test. Assumes nothing.
 use Prim.Native.Nat.{ℕ}
 use mathlib.Core.Bool.{Bool}
 use mathlib.Core.List.{List}
@@ -9,7 +9,7 @@ use Rattle.model.specs.Record.{part, column-at}
 use Rattle.model.specs.Sound.{count-of}
 use Rattle.column.specs.Part.{listed-in}
 
--- the intervals that column c of r lists
+-- MODEL 8.3: the intervals that column c of r lists
 abbrev pub column-list : List ℕ → ℕ → List Interval
 column-list r c = listed-in (part r (column-at c) column-size) (count-of r c)
 

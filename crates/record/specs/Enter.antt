@@ -1,4 +1,4 @@
--- What the contracts of `enter` say: a task's blocks taken from the free intervals one after the other. Assumes nothing.
+-- MODEL 12.4: what the contracts of `enter` say. A task's blocks are taken from the free intervals one after the other. Assumes nothing.
 use Prim.Native.Nat.{ℕ}
 use mathlib.Core.Path.{_≡_}
 use mathlib.Core.Bool.{Bool, true, not, _&&_}
@@ -19,7 +19,7 @@ free-cut d b B k c z = free d b c z && not (any-below k (covers B c z))
 unfoldable pub taken : Device → Book → Placed → ℕ → List ℕ
 taken d b B k = image d b (runs-of d (free-cut d b B k))
 
--- a task that can be placed at column p, bottom y of the record r
+-- a well-formed task that fits at column p, bottom y of the sound record r
 pub record Placeable (r t : List ℕ) (p y : ℕ) : Type 0 where
   pub sound : sound r ≡ true
   pub sized : sized t ≡ true

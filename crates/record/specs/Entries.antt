@@ -1,4 +1,4 @@
--- What the contracts of `entries` say: an entry read, found by number, moved, put in and taken out. Assumes nothing.
+-- MODEL 8.4: what the contracts of `entries` say. An entry is read, found by number, moved, put in and taken out. Assumes nothing.
 use Prim.Native.Nat.{ℕ, suc, _+_, _-_, _*_, _≤_, _<_}
 use mathlib.Core.Path.{_≡_}
 use mathlib.Core.Bool.{false}
@@ -20,7 +20,7 @@ use Rattle.record.specs.declared.entries.Found.the-variants.{At, Nowhere
 abbrev pub entry-of : List ℕ → ℕ → Running
 entry-of r j = getD (book-of r) j no-entry
 
--- the bytes of entry j's blocks, as a part of r from the entry's seventh byte on
+-- MODEL 8.4: the bytes of entry j's blocks, as a part of r
 abbrev pub blocks-of : List ℕ → ℕ → List ℕ
 blocks-of r j = take (entry-at j + blocks-at + block-size * block-count r j - (entry-at j + blocks-at)) (drop (entry-at j + blocks-at) r)
 

@@ -1,4 +1,4 @@
--- What the contracts of `fits` and of what it calls say. Assumes nothing.
+-- MODEL 6: what the contracts of `fits` and of what it calls say. Assumes nothing.
 use Prim.Native.Nat.{ℕ, _*_, _≤_, _<_}
 use mathlib.Core.Path.{_≡_}
 use mathlib.Core.Bool.{Bool, true, false}
@@ -17,7 +17,7 @@ pub record Listed (r : List ℕ) (c : ℕ) : Type 0 where
   pub column : c < max-columns
   pub few : count-of r c ≤ max-intervals
 
--- whether one of the intervals that r lists for column c holds all half rows from b up to t
+-- MODEL 6.5: whether one of the intervals that r lists for column c holds all half rows from b up to t
 pub record HeldIn (r : List ℕ) (c b t : ℕ) (ok : Bool) : Type 0 where
   pub yes : ok ≡ true → Holds b t (listed-intervals r c)
   pub no : ok ≡ false → Holds b t (listed-intervals r c) → ⊥

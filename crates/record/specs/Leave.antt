@@ -1,4 +1,4 @@
--- What the contracts of `leave` say: a running task's blocks joined to the free intervals one after the other. Assumes nothing.
+-- MODEL 12.5: what the contracts of `leave` say. A running task's blocks are joined to the free intervals one after the other. Assumes nothing.
 use Prim.Native.Nat.{ℕ, _<_}
 use mathlib.Core.Path.{_≡_}
 use mathlib.Core.Bool.{Bool, true, _||_}

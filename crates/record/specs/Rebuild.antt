@@ -1,4 +1,4 @@
--- A record made again from what it says, entry by entry: what the contracts of `sound` and of what it calls say. Assumes nothing.
+-- MODEL 9.9: a record made again from what it says, entry by entry, as the contracts of `sound` and of what it calls have it. Assumes nothing.
 use Prim.Native.Nat.{ℕ, zero, suc, _≤_, _<_}
 use mathlib.Core.Path.{_≡_}
 use mathlib.Core.Bool.{Bool, true, false}
@@ -18,7 +18,7 @@ unfoldable pub prior : ℕ → Book → ℕ → ℕ
 prior m b zero = m
 prior m b (suc j) = getD b j no-entry .number
 
--- entry j of r has a number that rises, and 1 to 32 blocks
+-- MODEL 9.3 and 9.4: entry j of r has a number that rises, and 1 to 32 blocks
 pub record Passes (r : List ℕ) (j : ℕ) : Type 0 where
   pub rises : prior 0 (book-of r) j < entry-of r j .number
   pub some-blocks : 1 ≤ block-count r j

@@ -1,4 +1,4 @@
-// The record of a new card: all cells free, and no task running.
+// MODEL 12.3: the record of a new card, on which all cells are free and no task runs.
 use model::COLUMN_SIZE;
 use model::COLUMNS_AT;
 use model::COUNTS_AT;
@@ -22,7 +22,7 @@ ghost use Rattle.model.specs.Record.{column-part, record-of};
 ghost use Rattle.model.specs.InPlace.{put-column};
 ghost use Rattle.record.specs.Clear.{Closed};
 
-// The top of the last cell of a column of the kind that a kind byte says.
+// MODEL 3.6: the top of a column of the kind that a kind byte says.
 fn top_of(rows: u32, kind: u8) -> u32
     requires { ⌜ (rows ≤ max-rows) × (kind ≤ max-kind) ⌝ }
     ensures { λ r. ⌜ r ≡ top-in rows kind ⌝ }

@@ -1,4 +1,4 @@
-// Whether a device is within its limits.
+// MODEL 3.2 and 3.3: whether rows and kinds are those of a device.
 ghost use mathlib.Core.Path.{_≡_};
 ghost use lib.Dec.{leb};
 ghost use Rattle.model.specs.Limits.{max-kind};

@@ -1,4 +1,4 @@
-// A task entered into a record: its cells are taken from the free intervals, and its entry is put in.
+// MODEL 12.4: a task entered into a record. Its cells are taken from the free intervals, and its entry is put in.
 use crate::entries::insert_entry;
 use crate::entries::place_of;
 use model::BLOCK_SIZE;
@@ -23,7 +23,7 @@ ghost use Rattle.column.specs.Part.{Room};
 ghost use Rattle.record.specs.Columns.{column-list};
 ghost use Rattle.record.specs.Enter.{taken, Placeable};
 
-// Cuts bottom..top out of the intervals of column c.
+// Cuts bottom..top out of the intervals of column c, whose part is lent (MODEL 21.5).
 fn cut_column(record: &mut [u8], c: usize, bottom: u32, top: u32)
     requires { ⌜ (length (now «record») ≡ record-size) × (c < max-columns) × Room (subtract bottom top) (part (now «record») (column-at c) column-size) (count-of (now «record») c) ⌝ }
     ensures { λ _. ⌜ now («record» .exit) ≡ put-column (now («record» .entry)) c (subtract bottom top (column-list (now («record» .entry)) c)) ⌝ }

@@ -1,4 +1,4 @@
-// The entries of the running tasks: found by number, moved, written and wiped.
+// MODEL 8.4: the entries of the running tasks, found by number, moved, written and wiped.
 use model::BLOCK_SIZE;
 use model::BLOCKS_AT;
 use model::ENTRIES_AT;
@@ -56,7 +56,7 @@ pub fn running(record: &[u8]) -> usize
     record[RUNNING_AT] as usize
 }
 
-// Entry j, with its blocks left where they stand: from its seventh byte on.
+// MODEL 8.4 and 21.5: entry j, with its blocks left where they stand, from its seventh byte on.
 pub fn read_entry(record: &[u8], j: usize) -> Entry
     requires { ⌜ (length (now «record») ≡ record-size) × (j < max-running) ⌝ }
     ensures { λ r. ⌜ Says (now («record» .entry)) j r ⌝ }

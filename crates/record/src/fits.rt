@@ -1,4 +1,4 @@
-// Whether a task fits at a position: every block stands in a column of its kind, on the grid, in one free interval.
+// MODEL 6: whether a task fits at a position, each block in a column of its kind, on the grid, and in one free interval.
 use column::Held;
 use column::holder;
 use model::BLOCK_SIZE;
@@ -21,7 +21,7 @@ ghost use Rattle.model.specs.Sound.{sound};
 ghost use Rattle.task.specs.Blocks.{seen};
 ghost use Rattle.record.specs.Fits.{Listed, Movable, HeldIn};
 
-// Whether one free interval of a column holds all half rows from bottom up to top.
+// MODEL 6.4 and 6.5: whether one free interval of a column holds all half rows from bottom up to top.
 fn holds(record: &[u8], column: usize, bottom: u32, top: u32) -> bool
     requires { ⌜ Listed (now «record») column ⌝ }
     ensures { λ r. ⌜ HeldIn (now («record» .entry)) column bottom top r ⌝ }
@@ -35,7 +35,7 @@ fn holds(record: &[u8], column: usize, bottom: u32, top: u32) -> bool
     }
 }
 
-// Whether a block fits that is moved by column and bottom.
+// MODEL 6.2 to 6.5: whether a block fits that is moved by column and bottom.
 fn block_fits(record: &[u8], block: Block, column: u32, bottom: u32) -> bool
     requires { ⌜ Movable (now «record») (seen block) column bottom ⌝ }
     ensures { λ r. ⌜ r ≡ block-fits (device-of (now («record» .entry))) (book-of (now («record» .entry))) (seen block) column bottom ⌝ }
@@ -59,7 +59,7 @@ fn block_fits(record: &[u8], block: Block, column: u32, bottom: u32) -> bool
     holds(record, at, low - REACH, bottom + block.high - REACH)
 }
 
-// Whether a task fits at a column and a bottom, which may lie off the device.
+// MODEL 6.1 and 6.6: whether a task fits at a column and a bottom, which may lie off the device.
 pub fn fits(record: &[u8], task: &[u8], column: u32, bottom: u32) -> bool
     requires { ⌜ (sound (now «record») ≡ true) × (sized (now task) ≡ true) × (well-formed (now task) ≡ true) ⌝ }
     ensures { λ r. ⌜ r ≡ fits (device-of (now («record» .entry))) (book-of (now («record» .entry))) (now (task .entry)) column bottom ⌝ }

@@ -1,4 +1,4 @@
-// A task taken out of a record: its cells are joined to the free intervals, and its entry is removed.
+// MODEL 12.5: a task taken out of a record. Its cells are joined to the free intervals, and its entry is removed.
 use crate::entries::Found;
 use crate::entries::find;
 use crate::entries::read_entry;
@@ -22,7 +22,7 @@ ghost use Rattle.column.specs.Part.{Joinable};
 ghost use Rattle.record.specs.Columns.{column-list};
 ghost use Rattle.record.specs.Leave.{Runs, freed-entry};
 
-// Joins bottom..top to the intervals of column c.
+// Joins bottom..top to the intervals of column c, whose part is lent (MODEL 21.5).
 fn join_column(record: &mut [u8], c: usize, bottom: u32, top: u32)
     requires { ⌜ (length (now «record») ≡ record-size) × (c < max-columns) × Joinable bottom top (part (now «record») (column-at c) column-size) (count-of (now «record») c) ⌝ }
     ensures { λ _. ⌜ now («record» .exit) ≡ put-column (now («record» .entry)) c (unite bottom top (column-list (now («record» .entry)) c)) ⌝ }

@@ -1,4 +1,4 @@
-// Whether bytes are a sound record: what they say is entered, task by task, into a scratch record, and the two are compared.
+// MODEL 9: whether bytes are a sound record. What they say is entered, task by task, into a scratch record, and the two are compared (MODEL 9.9).
 use crate::clear::clear;
 use crate::device::device_ok;
 use crate::enter::enter;
@@ -28,7 +28,7 @@ ghost use Rattle.model.specs.Sound.{sound};
 ghost use Rattle.record.specs.Entries.{entry-of, HasEntry};
 ghost use Rattle.record.specs.Rebuild.{prior, Ready, Tried, Rebuilt, Step};
 
-// Whether the number of running entry j is above that of the entry before it, and the first is 1 or more.
+// MODEL 9.4: whether the number of running entry j is above that of the entry before it, and the first is 1 or more.
 fn rises(record: &[u8], j: usize) -> bool
     requires { ⌜ HasEntry (now «record») j ⌝ }
     ensures { λ r. ⌜ r ≡ ltb (prior 0 (book-of (now («record» .entry))) j) (entry-of (now («record» .entry)) j .number) ⌝ }
@@ -40,7 +40,7 @@ fn rises(record: &[u8], j: usize) -> bool
     number_at(record, j - 1) < number
 }
 
-// Enters a task into the scratch record, if it is well-formed and fits there.
+// MODEL 9.5 and 9.6: enters a task into the scratch record, if it is well-formed and fits there.
 fn enter_task(scratch: &mut [u8], task: &[u8], number: u32, column: u32, bottom: u32) -> bool
     requires { ⌜ Ready (now scratch) (now task) number ⌝ }
     ensures { λ r. ⌜ Tried (now (scratch .entry)) (now (task .entry)) number column bottom (now (scratch .exit)) r ⌝ }
@@ -55,7 +55,7 @@ fn enter_task(scratch: &mut [u8], task: &[u8], number: u32, column: u32, bottom:
     true
 }
 
-// Enters running entry j into the scratch record. Its blocks are handed on as a part of the record, from the entry's seventh byte on.
+// MODEL 9.3: enters running entry j into the scratch record. Its blocks are passed on as a slice that starts inside the record (MODEL 21.5).
 fn enter_entry(scratch: &mut [u8], record: &[u8], j: usize) -> bool
     requires { ⌜ HasEntry (now «record») j × Rebuilt (now «record») (now scratch) j ⌝ }
     ensures { λ r. ⌜ Step (now («record» .entry)) (now (scratch .exit)) (j + 1) r ⌝ }
@@ -101,7 +101,7 @@ fn enter_all(scratch: &mut [u8], record: &[u8]) -> bool
     true
 }
 
-// Whether bytes of any length are a sound record.
+// MODEL 9.1: whether bytes of any length are a sound record.
 pub fn sound(record: &[u8]) -> bool
     ensures { λ r. ⌜ r ≡ sound (now («record» .entry)) ⌝ }
 {

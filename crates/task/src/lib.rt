@@ -1,4 +1,4 @@
-// A task's bytes: its blocks as values, whether it is well-formed, and its step.
+// MODEL 4 and 10.1: a task's bytes, its blocks as values, whether it is well-formed, and its step.
 // The model's definitions are those of model/specs/Tasks.antt; specs/ here ties the code's blocks to the model's.
 use model::Kind;
 use model::KindRead;
@@ -13,7 +13,7 @@ ghost use Rattle.model.specs.Columns.{height, kind-C};
 ghost use Rattle.model.specs.Tasks.{lifted, block, sized, block-ok, follows, well-formed, step};
 ghost use Rattle.task.specs.Blocks.{seen, Same, Reads, ReadsSolid, starts};
 
-// A block: low and high are its bottom and top plus REACH, so that neither is negative.
+// MODEL 4.2 and 4.9: a block. Low and high are its bottom and top plus REACH, so that neither is negative.
 pub struct Block {
     pub column: u32,
     pub kind: Kind,
@@ -21,7 +21,7 @@ pub struct Block {
     pub high: u32,
 }
 
-// What a block's bytes say. They are bad where the kind byte is no kind.
+// MODEL 4.8: what a block's bytes say. They are bad where the kind byte is no kind.
 pub enum BlockRead {
     Of(Block),
     Bad,
@@ -37,7 +37,7 @@ impl Block {
     }
 }
 
-// A signed bottom or top plus REACH.
+// MODEL 4.9: a signed bottom or top plus REACH.
 fn lift(v: u32) -> u32
     requires { ⌜ v < words ⌝ }
     ensures { λ r. ⌜ r ≡ lifted v ⌝ }
@@ -45,7 +45,7 @@ fn lift(v: u32) -> u32
     (v + model::REACH) % model::WORDS
 }
 
-// Block i of a task.
+// MODEL 4.2: block i of a task.
 pub fn read_block(task: &[u8], i: usize) -> BlockRead
     requires { ⌜ block-size * i + block-size ≤ length (now task) ⌝ }
     ensures { λ r. ⌜ Reads r (block (now (task .entry)) i) ⌝ }
@@ -78,7 +78,7 @@ pub fn block_at(task: &[u8], i: usize) -> Block
     b
 }
 
-// Whether the bytes are those of 1 to 32 whole blocks.
+// MODEL 4.1: whether the bytes are those of 1 to 32 whole blocks.
 pub fn sized(task: &[u8]) -> bool
     ensures { λ r. ⌜ r ≡ sized (now (task .entry)) ⌝ }
 {
@@ -92,7 +92,7 @@ pub fn sized(task: &[u8]) -> bool
     n % model::BLOCK_SIZE == 0
 }
 
-// Whether a block by itself is one of a well-formed task.
+// MODEL 4.6, 4.9 and 4.10: whether a block by itself is one of a well-formed task.
 fn block_ok(b: Block) -> bool
     ensures { λ r. ⌜ r ≡ block-ok (seen b) ⌝ }
 {
@@ -108,7 +108,7 @@ fn block_ok(b: Block) -> bool
     (b.high - b.low) % b.height() == 0
 }
 
-// Whether b may come after a.
+// MODEL 4.6 and 4.7: whether b may come right after a.
 fn follows(a: Block, b: Block) -> bool
     ensures { λ r. ⌜ r ≡ follows (seen a) (seen b) ⌝ }
 {
@@ -136,7 +136,7 @@ fn byte_or_zero(s: &[u8], i: usize) -> u32
     0
 }
 
-// Whether the first block has column 0 and bottom 0. Bytes that are missing count as 0.
+// MODEL 4.5: whether column and bottom of the first block are 0. Bytes that are missing count as 0.
 fn starts_at_zero(task: &[u8]) -> bool
     ensures { λ r. ⌜ r ≡ starts (now (task .entry)) ⌝ }
 {
@@ -162,7 +162,7 @@ fn solid_block(task: &[u8], i: usize) -> BlockRead
     BlockRead::Bad
 }
 
-// Whether a task is well-formed.
+// MODEL 4.4: whether a task is well-formed.
 pub fn well_formed(task: &[u8]) -> bool
     ensures { λ r. ⌜ r ≡ well-formed (now (task .entry)) ⌝ }
 {
@@ -198,7 +198,7 @@ fn is_logic(byte: u8) -> bool
     byte == Kind::C.number()
 }
 
-// The step of a task's positions: 2 when all blocks are C, 5 when none is, 10 when both occur.
+// MODEL 10.1: the step of a task.
 pub fn step(task: &[u8]) -> u32
     ensures { λ r. ⌜ r ≡ step (now (task .entry)) ⌝ }
 {

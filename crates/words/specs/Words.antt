@@ -11,7 +11,7 @@ pub record Widened (x r : ℕ) : Type 0 where
   pub is : r ≡ x
   pub small : r < 256
 
--- the two-byte number of s at `at`
+-- MODEL 4.3: the number of two bytes of s at `at`
 pub record Read16 (s : List ℕ) (at r : ℕ) : Type 0 where
   pub is : r ≡ word s at
   pub small : r < words

@@ -1,4 +1,4 @@
-// Numbers and bytes in a slice: two-byte numbers read and written, a slice copied, wiped and compared.
+// Numbers and bytes in a slice: numbers of two bytes (MODEL 4.3) read and written, a slice copied, wiped and compared.
 ghost use mathlib.Core.Path.{_≡_};
 ghost use Prim.Native.Nat.{_+_, _<_};
 ghost use lib.ListN.{length, replicate};

@@ -1,6 +1,6 @@
-//! The calls on byte slices, with document 01's answers: the C calling form made safe, and nothing more.
+//! The calls on byte slices, with the model's answers (`docs/MODEL.md`): the C calling form made safe, and nothing more.
 //!
-//! Each function takes any arguments at all: what document 01's table refuses
+//! Each function takes any arguments at all: what the table of refusals has
 //! is refused by its number, and no byte changes. [`outcome`](crate::outcome)
 //! turns an answer into a `Result`. [`Card`](crate::Card) is the same with types.
 //!
@@ -38,8 +38,8 @@ pub fn new(record: &mut [u8], rows: u32, kinds: &[u8]) -> i32 {
     }
 }
 
-/// Place: enters the task as running under a number, at a column and a bottom in half rows,
-/// and takes its cells. Answers 0, −1, −2, −4, −5, −7, −8 or −10.
+/// Place: puts the task into the record under a number, at a column and a bottom in half rows,
+/// so that it holds its cells. Answers 0, −1, −2, −4, −5, −7, −8 or −10.
 pub fn place(record: &mut [u8], task: &[u8], number: u32, column: u32, bottom: i32) -> i32 {
     // SAFETY: as in `new`.
     unsafe {
@@ -62,7 +62,7 @@ pub fn release(record: &mut [u8], number: u32) -> i32 {
 }
 
 /// List: writes the ranges of positions at which a task fits, 6 bytes each, and answers
-/// their number, or −1, −2, −4, −5, −6 or −9. Bytes after the ranges stay.
+/// their number, or −1, −2, −4, −5, −6 or −9. The output's bytes behind them are not written.
 pub fn list(record: &[u8], task: &[u8], output: &mut [u8]) -> i32 {
     // SAFETY: as in `new`.
     unsafe {

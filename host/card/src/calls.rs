@@ -5,7 +5,7 @@ use crate::layout::{COLUMN_SIZE, INTERVALS_AT, INTERVAL_SIZE, RANGE_SIZE};
 use crate::{outcome, Card, Intervals, Position, Ranges, Refusal, Task};
 
 impl<B: AsRef<[u8]> + AsMut<[u8]>> Card<B> {
-    /// Place: enters the task as running under a number, and takes its cells.
+    /// Place: puts the task on the card under a number, so that it holds its cells.
     ///
     /// [Checks the whole record](Card#what-a-call-costs). Refuses with −5, −7 (number 0, or running), −8 (64 tasks run) or −10
     /// (it does not fit there).
@@ -34,8 +34,8 @@ impl<B: AsRef<[u8]> + AsMut<[u8]>> Card<B> {
         outcome(answer).map(|_| ())
     }
 
-    /// Release: frees the cells of a running task, joined to free neighbours on
-    /// both sides, and removes it; −11 where the number is not running.
+    /// Release: takes a running task off the card. Its cells are free again, as one
+    /// interval with what is free right below and above; −11 where the number does not run.
     ///
     /// [Checks the whole record](Card#what-a-call-costs).
     ///
@@ -85,9 +85,9 @@ impl<B: AsRef<[u8]>> Card<B> {
 
     /// Choose: the best of all positions at which the task fits.
     ///
-    /// That is the one with document 01's least n / s: few free intervals left
-    /// over (n) of the intervals that it cuts, and these high (s). Of equals
-    /// it is the lowest column, then the lowest bottom.
+    /// That is the one with the least n / s: few free intervals left over (n) of
+    /// the intervals that it cuts, and these high (s). Of equals it is the one in
+    /// the lowest column, and there the lowest.
     ///
     /// [Checks the whole record](Card#what-a-call-costs) before it weighs the
     /// positions. Refuses with −5 or −9 (no position fits).

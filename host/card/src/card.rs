@@ -8,7 +8,7 @@ use crate::bytes;
 use crate::layout::{ENTRIES_AT, ENTRY_SIZE, RUNNING_AT};
 use crate::{outcome, Device, Refusal, Running, RunningTasks};
 
-/// A card: a device, the tasks that run on it, and which cells are free; kept as document 01's record.
+/// A card: a device, the tasks that run on it, and which cells are free; kept as a record (`docs/MODEL.md`, section 8).
 ///
 /// The record's bytes are the card's own (`Card`), or any that it is lent:
 /// `&mut [u8]`, or `&[u8]` for the calls that only read. No call allocates.
@@ -16,8 +16,8 @@ use crate::{outcome, Device, Refusal, Running, RunningTasks};
 /// A card is sound from [`new`](Card::new), [`new_in`](Card::new_in) or
 /// [`open`](Card::open) on, and its calls keep it sound; so, where nobody else
 /// writes the bytes, none of them refuses it with −1 or −2. The calls are the
-/// proved library's: a refused one changes no byte, no two running tasks hold
-/// one cell, and a task is listed exactly where it fits.
+/// proved library's: a refused one changes no byte, no cell is ever held by two
+/// running tasks, and a task is listed exactly where it fits.
 ///
 /// A card printed with `{}` is drawn.
 ///
@@ -204,8 +204,8 @@ impl<B: AsRef<[u8]>> Card<B> {
     }
 }
 
-/// Two cards are equal when their records are: the same device with the same
-/// tasks, under the same numbers at the same positions.
+/// Two cards are equal when their records are: they have the same device, and
+/// the same tasks run, with equal numbers and positions.
 impl<B: AsRef<[u8]>, C: AsRef<[u8]>> PartialEq<Card<C>> for Card<B> {
     fn eq(&self, other: &Card<C>) -> bool {
         self.as_bytes() == other.as_bytes()

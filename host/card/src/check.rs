@@ -5,9 +5,9 @@ use core::fmt;
 use crate::layout::{MAX_COLUMNS, REACH};
 use crate::{Block, Refusal, Task};
 
-/// A rule of well-formedness that a block can break, in document 01's order.
+/// A rule of well-formedness that a block can break (`docs/MODEL.md`, 4.5 to 4.10).
 ///
-/// One rule of document 01 has no place here: a [`Task`] has no kind above 2.
+/// One rule, 4.8, has no place here: a [`Task`] has no kind above 2.
 ///
 /// ```
 /// use card::{Kind, Rule, Task};
@@ -17,23 +17,23 @@ use crate::{Block, Refusal, Task};
 /// ```
 #[derive(Clone, Copy, Debug, PartialEq, Eq, Hash)]
 pub enum Rule {
-    /// The first block has column 0.
+    /// The first block's column is 0.
     FirstColumn,
-    /// The first block has bottom 0.
+    /// The first block's bottom is 0.
     FirstBottom,
-    /// Columns never fall.
+    /// No column is lower than that of the block before.
     ColumnFalls,
-    /// Columns are at most 63.
+    /// No column is above 63.
     ColumnTooHigh,
-    /// Blocks in one column have one kind.
+    /// A block has the kind of the block before it in its column.
     OtherKind,
-    /// In one column, a block's bottom is above the top of the block before it; touching blocks would be one block.
+    /// A block's bottom is above the top of the block before it in its column; two that touch have to be written as one.
     NotAbove,
-    /// The bottom is at least −256.
+    /// The bottom is not under −256.
     BottomTooLow,
-    /// The top is at most 256.
+    /// The top is not over 256.
     TopTooHigh,
-    /// Top − bottom is a positive multiple of the height of the kind's cells.
+    /// The block is a whole number of cells of its kind high, one at least.
     NotWholeCells,
 }
 
@@ -94,7 +94,7 @@ impl Rule {
 /// ```
 /// use card::{Broken, Kind, Refusal, Rule, Task};
 ///
-/// // Two blocks that touch would be one block.
+/// // Two blocks that touch have to be written as one.
 /// let touching = Task::builder()
 ///     .block(0, Kind::C, 0, 2)
 ///     .block(0, Kind::C, 2, 4)

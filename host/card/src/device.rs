@@ -3,7 +3,7 @@
 use crate::layout::{COLUMNS_AT, KINDS_AT, MAX_COLUMNS, MAX_ROWS, ROWS_AT};
 use crate::{DeviceFault, Kind, Refusal};
 
-/// A device within document 01's limits: its rows, and the kinds of its columns from the left.
+/// A device within the limits: its rows, and the kinds of its columns from the left.
 ///
 /// ```
 /// use card::{Device, Kind, Refusal};
@@ -120,7 +120,7 @@ impl Device {
             .map_or(0, |kind| self.half_rows() / kind.height().unsigned_abs())
     }
 
-    /// The half row above a column's last cell; 0 where there is no such column. What lies from there on is no cell.
+    /// The half row above a column's last cell; 0 where there is no such column. Half rows from there on are in no cell.
     ///
     /// ```
     /// use card::Device;

@@ -5,7 +5,7 @@ use core::fmt;
 use crate::layout::INTERVAL_SIZE;
 use crate::parts::parts;
 
-/// A maximal run of free cells in one column, from bottom up to but not including top, in half rows.
+/// Free cells one above the other, with no further free one below or above them: from bottom up to top, excluded, in half rows.
 ///
 /// ```
 /// use card::Interval;

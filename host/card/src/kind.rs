@@ -4,7 +4,7 @@ use core::fmt;
 
 use crate::Refusal;
 
-/// The kind of a column, or of the column that a block needs; named by document 01's letter.
+/// The kind of a column, or of the column that a block needs; named by its letter.
 ///
 /// ```
 /// use card::Kind;
@@ -36,7 +36,7 @@ impl Kind {
         }
     }
 
-    /// Document 01's letter: C, B or D.
+    /// Its letter: C, B or D.
     pub const fn letter(self) -> char {
         match self {
             Kind::C => 'C',
@@ -56,7 +56,7 @@ impl Kind {
     }
 }
 
-/// Reads document 01's letter; any other is a malformed device, −3.
+/// Reads a kind's letter; any other is a malformed device, −3.
 impl TryFrom<char> for Kind {
     type Error = Refusal;
 
@@ -66,7 +66,7 @@ impl TryFrom<char> for Kind {
     }
 }
 
-/// Shows document 01's letter.
+/// Shows the letter.
 impl fmt::Display for Kind {
     fn fmt(&self, f: &mut fmt::Formatter<'_>) -> fmt::Result {
         fmt::Display::fmt(&self.letter(), f)

@@ -1,4 +1,4 @@
-//! Limits, lengths and byte offsets of document 01, each once, with the names that the proved code has for them.
+//! Limits, lengths and byte offsets of the model (`docs/MODEL.md`), each once, with the names that the proved code has for them.
 //!
 //! Whoever uses [`bytes`](crate::bytes) reads records, tasks and listings with
 //! these; [`Card`](crate::Card) needs none of them. `host/card.h` has the same

@@ -1,11 +1,11 @@
 //! Where circuits may go on an FPGA card of mixed columns: Rust over the proved library.
 //!
-//! The library itself is written in Rattle and proved against document 01;
-//! this crate calls it through the C calling form and adds types, and decides
+//! The library itself is written in Rattle and proved against the model in
+//! `docs/MODEL.md`; this crate calls it through the C calling form and adds types, and decides
 //! nothing about placement itself.
 //!
 //! A [`Device`] has rows, and columns of a [`Kind`]: C (logic), B (memory) or D
-//! (multiplier). Heights are counted in half rows: a cell of C is 2 high, one of
+//! (multiplier). The unit of heights is the half row: a cell of C is 2 high, one of
 //! B or D is 5. A circuit is a [`Task`]: blocks of whole cells, relative to the
 //! first one. A [`Card`] holds one device with its running tasks. It lists the
 //! [`Position`]s at which a task fits, chooses the best one, places a task
@@ -66,7 +66,7 @@
 //! # Layers
 //!
 //! Under [`Card`] are two more layers: [`bytes`] has the same calls on byte
-//! slices with document 01's answers, and [`raw`] the functions themselves.
+//! slices with the model's answers, and [`raw`] the functions themselves.
 //! [`layout`] has the numbers with which these bytes are read. `host/card.h`
 //! declares all that for C.
 //!

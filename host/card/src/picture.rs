@@ -12,7 +12,7 @@ const SYMBOLS: &[u8; MAX_RUNNING] =
 /// A free cell.
 const FREE: u8 = b'.';
 
-/// What lies above the last whole cell of a column.
+/// A half row from the top of a column on: no cell.
 const NO_CELL: u8 = b'-';
 
 /// The half rows of the highest device.

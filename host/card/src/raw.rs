@@ -3,7 +3,7 @@
 //! A byte slice passes as a pointer and then a length. A caller keeps that
 //! each pointer is not null and valid for its length, for writing where it is
 //! `*mut`, and that a `*mut` part overlaps no other part. Everything else is
-//! promised: any bytes, lengths and numbers get document 01's answer. No
+//! promised: any bytes, lengths and numbers get the model's answer. No
 //! pointer is kept. [`bytes`](crate::bytes) has the same functions on slices.
 //!
 //! Nothing checks these declarations against the source, so they stand in this

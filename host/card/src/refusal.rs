@@ -1,10 +1,10 @@
-//! The refusals of document 01's table.
+//! The refusals, by the table of `docs/MODEL.md`, 13.1.
 
 use core::fmt;
 
-/// Why a call did nothing; the discriminant is the number that document 01's table returns for it.
+/// Why a call did nothing; the discriminant is the number that the table has for it.
 ///
-/// Where several apply, the one nearest to 0 is given. No byte changes on a refusal.
+/// If more than one holds for a call, it gives the one closest to 0. A refused call changes no byte.
 ///
 /// ```
 /// use card::Refusal;
@@ -116,7 +116,7 @@ pub fn outcome(answer: i32) -> Result<u32, Refusal> {
     match (u32::try_from(answer), Refusal::from_number(answer)) {
         (Ok(given), _) => Ok(given),
         (Err(_), Some(refusal)) => Err(refusal),
-        // "These are the only ones": no call answers any other number.
+        // MODEL 13.4: no call has any other negative answer.
         (Err(_), None) => unreachable!("{answer} is in no row of the table"),
     }
 }

@@ -47,7 +47,7 @@ impl Running {
         }
     }
 
-    /// Whether the task holds a half row of a column: whether one of its blocks, moved to its position, covers it.
+    /// Whether the task holds a half row of a column: whether a block of it, where it stands, covers it.
     pub fn holds(&self, column: u8, half_row: i16) -> bool {
         self.task.blocks().any(|block| {
             let (held, half_rows) = self.moved(block);

@@ -32,7 +32,7 @@ pub struct Block {
 impl Block {
     pub(crate) const SIZE: usize = BLOCK_SIZE;
 
-    /// The block's bytes, in document 01's layout.
+    /// The block's bytes.
     pub(crate) fn to_bytes(self) -> [u8; BLOCK_SIZE] {
         let bottom = self.bottom.to_le_bytes();
         let top = self.top.to_le_bytes();
@@ -70,7 +70,7 @@ parts! {
     Blocks of Block
 }
 
-/// A task: a circuit as 1 to 32 blocks, kept as the bytes that document 01 has for it.
+/// A task: a circuit as 1 to 32 blocks, kept as its bytes (`docs/MODEL.md`, 4.1 and 4.2).
 ///
 /// A task is a value of its own, without allocation. Its bytes are always whole
 /// blocks, so no call refuses it with −4. Whether it is well-formed (the first
@@ -140,7 +140,7 @@ impl Task {
         blocks.iter().fold(Task::builder(), add).build()
     }
 
-    /// The task of document 01's bytes: −4 where their number is 0, over 192 or
+    /// The task of these bytes: −4 where their number is 0, over 192 or
     /// no multiple of 6, and −5 where a kind byte is above 2.
     ///
     /// ```
@@ -171,7 +171,7 @@ impl Task {
         Task { bytes, len }
     }
 
-    /// The bytes, 6 for each block, in document 01's layout.
+    /// The bytes, 6 for each block.
     pub fn as_bytes(&self) -> &[u8] {
         &self.bytes[..usize::from(self.len)]
     }

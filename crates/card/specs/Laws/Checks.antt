@@ -1,4 +1,4 @@
--- The checks that calls share: of the record, and of the task. Assumes nothing.
+-- MODEL 13: the checks that calls share, of the record, and of the task. Assumes nothing.
 use Prim.Native.Nat.{ℕ, suc}
 use mathlib.Core.Path.{_≡_}
 use mathlib.Core.Logic.{_≢_}

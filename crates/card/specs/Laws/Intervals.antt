@@ -1,4 +1,4 @@
--- The interval count and the view, return by return. Assumes nothing.
+-- MODEL 16: the interval count and the view, return by return. Assumes nothing.
 use Prim.Native.Nat.{ℕ, _+_, _-_, _*_, _≤_, _<_}
 use mathlib.Core.Path.{_≡_, sym, ap, _∙_}
 use mathlib.Core.Bool.{true}

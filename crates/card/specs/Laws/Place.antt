@@ -1,4 +1,4 @@
--- Place: its signed bottom, its refusals, and the entry of the task. Assumes nothing.
+-- MODEL 12.4: place, its signed bottom, its refusals, and the entry of the task. Assumes nothing.
 use Prim.Native.Nat.{ℕ, _<_}
 use mathlib.Core.Path.{_≡_, refl, sym, ap, _∙_}
 use mathlib.Core.Bool.{Bool, true, false}

@@ -1,4 +1,4 @@
--- List and choose, return by return. Assumes nothing.
+-- MODEL 10, 11 and 12: list and choose, return by return. Assumes nothing.
 use Prim.Native.Nat.{ℕ, _+_, _*_, _≤_, _<_}
 use mathlib.Core.Path.{_≡_, refl, sym, _∙_}
 use mathlib.Core.Option.{Option, none, some}

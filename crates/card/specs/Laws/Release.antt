@@ -1,4 +1,4 @@
--- Release, return by return. Assumes nothing.
+-- MODEL 12.5: release, return by return. Assumes nothing.
 use Prim.Native.Nat.{ℕ}
 use mathlib.Core.Path.{_≡_}
 use mathlib.Core.Bool.{true, false}

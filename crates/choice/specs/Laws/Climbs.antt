@@ -1,4 +1,4 @@
--- The way up a range: one position considered, the bottoms passed over, and the end. Assumes nothing.
+-- MODEL 11.5: the way up a range, one position considered, the bottoms passed over, and the end. Assumes nothing.
 use Prim.Native.Nat.{ℕ, suc, _+_, _-_, _*_, _/_, _≤_, _<_}
 use mathlib.Core.Path.{_≡_, refl, ap}
 use mathlib.Core.Logic.{_⊎_, inl, inr}

@@ -1,4 +1,4 @@
--- The way up a column, range by range, and through all columns, to the choice. Assumes nothing.
+-- MODEL 11.5: the way up a column, range by range, and through all columns, to the choice. Assumes nothing.
 use Prim.Native.Nat.{ℕ, suc, _+_, _*_, _≤_, _<_}
 use mathlib.Core.Path.{_≡_, refl, sym, ap, _∙_}
 use mathlib.Core.Logic.{_⊎_, inl, inr}

@@ -1,4 +1,4 @@
--- The score of a position, block by block. Assumes nothing.
+-- MODEL 11.2 and 11.3: the score of a position, block by block. Assumes nothing.
 use Prim.Native.Nat.{ℕ, zero, suc, _+_, _-_, _*_, _≤_, _<_, min}
 use mathlib.Core.Path.{_≡_, refl, sym, ap, _∙_}
 use mathlib.Core.Bool.{true}

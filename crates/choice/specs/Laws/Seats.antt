@@ -1,4 +1,4 @@
--- Where a block of a task that fits stands, and its home, from the bytes of a sound record. Assumes nothing.
+-- MODEL 11.1: where a block of a task that fits stands, and its home, from the bytes of a sound record. Assumes nothing.
 use Prim.Native.Nat.{ℕ, _+_, _-_, _*_, _≤_, _<_}
 use mathlib.Core.Path.{_≡_, ap, _∙_}
 use mathlib.Core.Bool.{true}

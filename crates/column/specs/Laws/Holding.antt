@@ -1,4 +1,4 @@
--- The interval of a list that holds b..t: what the search of `holder` finds, and the loop. Assumes nothing.
+-- MODEL 11.1: the interval of a list that holds b..t, what the search of `holder` finds, and the loop. Assumes nothing.
 use Prim.Native.Nat.{ℕ, suc, _+_, _-_, _≤_, _<_}
 use mathlib.Core.Path.{_≡_, refl, sym, _∙_}
 use mathlib.Core.Logic.{inl, inr}

@@ -1,4 +1,4 @@
--- A column's part as it is lent out of a record: what it lists is what the record lists for the column. Assumes nothing.
+-- MODEL 8.2 and 8.3: a column's part as it is lent out of a record. What it lists is what the record lists for the column. Assumes nothing.
 use Prim.Native.Nat.{ℕ, _+_, _-_, _*_, _≤_, _<_}
 use mathlib.Core.Path.{_≡_, sym}
 use mathlib.Core.List.{List}

@@ -1,4 +1,4 @@
--- A part that holds a list of intervals: what it lists, and what `cut` and `join` ask of it and leave. Assumes nothing.
+-- MODEL 8.3: a part that holds a list of intervals, what it lists, and what `cut` and `join` ask of it and leave. Assumes nothing.
 use Prim.Native.Nat.{ℕ, zero, suc, _+_, _-_, _≤_, _<_}
 use mathlib.Core.Path.{_≡_, refl, ap, ap₂, _∙_}
 use mathlib.Core.Logic.{inl, inr}

@@ -1,4 +1,4 @@
--- The loops of `cut` and `join`: they read a part from its front, and write another. Assumes nothing.
+-- MODEL 12.4 and 12.5: the loops of `cut` and `join`, which read a part from its front, and write another. Assumes nothing.
 use Prim.Native.Nat.{ℕ, suc, _+_, _-_, _*_, _≤_, _<_, min, max}
 use mathlib.Core.Path.{_≡_, refl, sym, ap, _∙_}
 use mathlib.Core.List.{List, [], _∷_, _++_, append-assoc, append-nil}

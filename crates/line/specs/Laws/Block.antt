@@ -1,4 +1,4 @@
--- A block call's bytes are read back as the block that it says. Assumes nothing.
+-- MODEL 18.10: a block call's bytes are read back as the block that it says. Assumes nothing.
 use Prim.Native.Nat.{ℕ, suc, _+_, _-_, _*_, _/_, _%_, _≤_, _<_}
 use mathlib.Core.Path.{_≡_, refl, sym, ap, _∙_}
 use mathlib.Core.List.{List, [], _∷_, _++_}

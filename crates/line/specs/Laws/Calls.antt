@@ -1,4 +1,4 @@
--- A sheet line by its fields, as they are read one after the other. Assumes nothing.
+-- MODEL 17.6 to 17.9: a sheet line by its fields, as they are read one after the other. Assumes nothing.
 use Prim.Native.Nat.{ℕ, zero, suc, _≤_, _<_}
 use mathlib.Core.Path.{_≡_, refl, sym, ap, _∙_}
 use mathlib.Core.Bool.{Bool, true, false, _&&_}

@@ -1,4 +1,4 @@
--- The line of rows and kinds by its two fields. Assumes nothing.
+-- MODEL 17.6 and 17.7: the line of rows and kinds by its two fields. Assumes nothing.
 use Prim.Native.Nat.{ℕ, suc, _+_, _-_, _≤_, _<_}
 use mathlib.Core.Path.{_≡_, refl, sym, ap, _∙_}
 use mathlib.Core.Bool.{true, false, cond, _&&_}

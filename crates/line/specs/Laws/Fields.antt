@@ -1,4 +1,4 @@
--- What the readers of a line meet: the bytes of a field, digits, and the fields of a line from a place on. Assumes nothing.
+-- MODEL 17.3 and 17.5: what the readers of a line meet, the bytes of a field, digits, and the fields of a line from a place on. Assumes nothing.
 use Prim.Native.Nat.{ℕ, zero, suc, _+_, _-_, _*_, _≤_, _<_}
 use mathlib.Core.Path.{_≡_, refl, _∙_}
 use mathlib.Core.Logic.{_⊎_, inl, inr}

@@ -1,4 +1,4 @@
--- A number of any length and the number that is read, which is at most 99,999: they say the same of a field. Assumes nothing.
+-- MODEL 17.7: a number of any length and the number that is read, which is at most 99,999, say the same of a field. Assumes nothing.
 use Prim.Native.Nat.{ℕ, zero, suc, _≤_, _<_}
 use mathlib.Core.Path.{_≡_, refl, ap}
 use mathlib.Core.Bool.{Bool, true, false, cond, _&&_}

@@ -1,4 +1,4 @@
--- Printing: digits one after the other, and texts one after the other. Assumes nothing.
+-- MODEL 17.5 and 18.3: printing, digits one after the other, and texts one after the other. Assumes nothing.
 use Prim.Native.Nat.{ℕ, zero, suc, _+_, _-_, _*_, _/_, _%_, _≤_, _<_}
 use Prim.Native.Char.{code}
 use mathlib.Core.Path.{_≡_, refl, sym, ap, _∙_}

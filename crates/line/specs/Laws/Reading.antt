@@ -1,4 +1,4 @@
--- Reading undoes printing: a number that is printed is read as that number. Assumes nothing.
+-- MODEL 17.5: printed numbers have the form that is read, so a number that is printed is read as that number. Assumes nothing.
 use Prim.Native.Nat.{ℕ, zero, suc, _+_, _-_, _*_, _/_, _%_, _≤_, _<_}
 use mathlib.Core.Path.{_≡_, refl, sym, ap, _∙_}
 use mathlib.Core.Logic.{_⊎_, inl, inr}

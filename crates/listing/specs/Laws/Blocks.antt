@@ -1,4 +1,5 @@
--- The bottoms of the first blocks of a task: none met, one block more, and all. At the end they are, lowered again, the model's ranges. Assumes nothing.
+-- MODEL 10.4: the bottoms of the first blocks of a task, none met, one block more, and all. At the end they are, lowered again, the model's ranges.
+-- Assumes nothing.
 use Prim.Native.Nat.{ℕ, suc, _+_, _-_, _*_, _/_, _≤_, _<_, max}
 use mathlib.Core.Path.{_≡_, refl, sym, ap}
 use mathlib.Core.Logic.{_⊎_, inl, inr}

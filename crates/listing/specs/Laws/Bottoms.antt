@@ -1,5 +1,5 @@
--- The bottoms of one block: a block fits just where an interval of its column holds it and it stands on its grid; so its list of ranges, made from the
--- column's intervals, is canonical and names exactly the bottoms at which it fits. Assumes nothing.
+-- MODEL 6 and 10: the bottoms of one block. It fits just where an interval of its column holds it and it stands on its grid; so its list of ranges,
+-- made from the column's intervals, is canonical and names exactly the bottoms at which it fits. Assumes nothing.
 use Prim.Native.Nat.{ℕ, suc, _+_, _-_, _*_, _≤_, _<_}
 use mathlib.Core.Path.{_≡_, refl}
 use mathlib.Core.Logic.{inl, inr}

@@ -1,4 +1,4 @@
--- A task in one column of a sound record: what the walks need of the record, and the model's ranges at the end. Assumes nothing.
+-- MODEL 10.4: a task in one column of a sound record, what the walks need of the record, and the model's ranges at the end. Assumes nothing.
 use Prim.Native.Nat.{ℕ, _+_, _-_, _*_, _/_, _≤_, _<_}
 use mathlib.Core.Path.{_≡_, refl, sym, ap, subst, _∙_}
 use mathlib.Core.Bool.{Bool, true, false, true≢false, false≢true}

@@ -1,4 +1,4 @@
--- The laws of the bytes of a listing. Assumes nothing.
+-- MODEL 10.6 and 12.6: the laws of the bytes of a listing. Assumes nothing.
 use Prim.Native.Nat.{ℕ, _+_, _*_, _≤_, _<_}
 use mathlib.Core.Path.{_≡_, refl, sym, ap, ap₂, _∙_}
 use mathlib.Core.Logic.{_⊎_, inl, inr}

@@ -1,4 +1,4 @@
--- n is also what the free intervals after placing count to: those of them that lie inside an interval that held a block. Assumes nothing.
+-- MODEL 11.3: n counts the free intervals, once the task is placed, that lie inside an interval that held a block. Assumes nothing.
 use Prim.Native.Nat.{ℕ, suc, _+_, _-_, _≤_, _<_}
 use mathlib.Core.Path.{_≡_, refl, sym, ap, ap₂, _∙_}
 use mathlib.Core.Logic.{_⊎_, inl, inr, _↔_}

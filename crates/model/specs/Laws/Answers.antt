@@ -1,4 +1,4 @@
--- "These are the only ones": an answer below 0 is a row of the table that speaks of the call. Assumes nothing.
+-- MODEL 13.4: an answer below 0 is a row of the table that speaks of the call. Assumes nothing.
 use Prim.Native.Nat.{ℕ, zero, suc}
 use mathlib.Core.Path.{_≡_}
 use mathlib.Core.Logic.{_⊎_, inl, inr}
@@ -14,7 +14,7 @@ use Rattle.model.specs.Record.{device-of, book-of}
 use Rattle.model.specs.Calls.{Call, list, choose, place, release, Outcome, Refusal, refused, refusals, unless, lent, done, on-book}
 use Rattle.model.specs.OnRecord.{wrong-length, not-sound, written, on-record}
 
--- the rows that speak of a call, as numbers: those that the book can give, after −1 and −2
+-- MODEL 13.1: the rows that speak of a call, as numbers: those that the book can give, after −1 and −2
 abbrev pub book-rows : Call → List ℕ
 book-rows (list t o) = 4 ∷ 5 ∷ 6 ∷ 9 ∷ []
 book-rows (choose t) = 4 ∷ 5 ∷ 9 ∷ []

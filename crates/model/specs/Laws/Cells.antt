@@ -1,5 +1,5 @@
--- Blocks are whole cells: all half rows of a cell are held or free alike, so a maximal run of free half rows is a maximal run of free cells, and a
--- column has few of them. Assumes nothing.
+-- MODEL 5.4 and 7.4: blocks are whole cells, so all half rows of a cell are held or free alike, a maximal run of free half rows is a maximal run of
+-- free cells, and a column has few of them. Assumes nothing.
 use Prim.Native.Nat.{ℕ, suc, _+_, _-_, _*_, _/_, _%_, _≤_, _<_}
 use mathlib.Core.Path.{_≡_, refl, sym, ap, ap₂, _∙_}
 use mathlib.Core.Logic.{inl, inr}
@@ -149,7 +149,7 @@ top-cells h n k i l =
     (λ e. lt-ltb (h * k + i) (h * n) (omega (arith, mul-le-mul-left {m = suc k} {n = n} h (omega tests))))
 
 module _ (d : Device) (b : Book) (w : within d b ≡ true) (c : ℕ) where
-  -- THEOREM: a half row is free just where its cell is
+  -- THEOREM: a half row is free just where its cell is (MODEL 5.4)
   pub free-cell : (k i : ℕ) → i < height (kind d c) → free d b c (height (kind d c) * k + i) ≡ cell-free d b c k
   unfolding free cell-free held top top-in cells
   free-cell k i l =
@@ -157,7 +157,7 @@ module _ (d : Device) (b : Book) (w : within d b ≡ true) (c : ℕ) where
       (top-cells (height (kind d c)) (cells d c) k i l)
       (any-in-ext _ _ b (λ e m. covered-holds d e (limits-to d b w .entries e m) c k i l))
 
-  -- THEOREM: a maximal run of free half rows is a maximal run of free cells
+  -- THEOREM: a maximal run of free half rows is a maximal run of free cells (MODEL 7.1)
   pub intervals-cells : intervals d b c ≡ map (scaled (height (kind d c))) (maximal-runs (cell-free d b c) (cells d c))
   unfolding intervals top top-in cells
   intervals-cells = whole-cells (height (kind d c)) (height-pos (kind d c)) (cells d c) (free d b c) (cell-free d b c) (λ k i l g. free-cell k i g)
@@ -166,7 +166,7 @@ module _ (d : Device) (b : Book) (w : within d b ≡ true) (c : ℕ) where
   pub intervals-grid : OnGrid (height (kind d c)) (intervals d b c)
   intervals-grid = rw intervals-cells (scaled-grid (height (kind d c)) (maximal-runs (cell-free d b c) (cells d c)))
 
-  -- THEOREM: a column has at most 64 free intervals
+  -- THEOREM: a column has at most 64 free intervals (MODEL 7.4)
   pub few-intervals : length (intervals d b c) ≤ max-intervals
   unfolding cells cells-in maximal-runs
   few-intervals =
@@ -174,7 +174,7 @@ module _ (d : Device) (b : Book) (w : within d b ≡ true) (c : ℕ) where
       let h = mul-le-mul-right {m = 2} {n = height (kind d c)} (cells d c) (height-two (kind d c)) in
       rw intervals-cells (simp length-map (omega (arith, limits-to d b w .rows, runs-count 1 (cell-free d b c) (in-step-one (cell-free d b c)) (cells d c))))
 
--- each free interval has a half row, and ends at or below the top of the last cell
+-- each free interval has a half row, and ends at or below the top of the column; so it is small (MODEL 9.10)
 pub interval-ends : (d : Device) (b : Book) (c : ℕ) (i : Interval) → In i (intervals d b c) → (i .bottom < i .top) × (i .top ≤ top d c)
 unfolding intervals
 interval-ends d b c i m =

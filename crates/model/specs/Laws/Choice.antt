@@ -1,4 +1,4 @@
--- What the choice is: a fitting position with the least n / s, by cross-products, and of such positions the one in the lowest column, and there the lowest.
+-- MODEL 11.4 and 11.5: the choice fits, no fitting position is better, and of those as good as it, it is in the lowest column, and there the lowest.
 -- Assumes nothing.
 use Prim.Native.Nat.{ℕ, zero, suc, _*_, _≤_, _<_}
 use mathlib.Core.Path.{_≡_, refl}

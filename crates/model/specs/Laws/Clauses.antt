@@ -1,4 +1,4 @@
--- The clauses of `sound`, each as a fact, and back. Assumes nothing.
+-- MODEL 9.1 to 9.8: the clauses of `sound`, each as a fact, and back. Assumes nothing.
 use Prim.Native.Nat.{ℕ, _+_, _-_, _*_, _≤_, _<_}
 use mathlib.Core.Path.{_≡_, refl, ap₂}
 use mathlib.Core.Bool.{Bool, true, _&&_, false≢true}

@@ -1,4 +1,5 @@
--- The steps of a loop that looks for the choice: what one bottom does to the best so far, and which bottoms may be passed over. Assumes nothing.
+-- The steps of a loop that looks for the choice (MODEL 11.5): what one bottom does to the best so far, and which bottoms may be passed over.
+-- Assumes nothing.
 use Prim.Native.Nat.{ℕ, zero, suc, _+_, _-_, _*_, _≤_, _<_}
 use mathlib.Core.Path.{_≡_, refl, ap, _∙_}
 use mathlib.Core.Bool.{Bool, true, false}

@@ -1,4 +1,4 @@
--- A column's part of the record: its intervals read one by one, and one more put behind the last. Assumes nothing.
+-- MODEL 8.3: a column's part of the record, its intervals read one by one, and one more put behind the last. Assumes nothing.
 use Prim.Native.Nat.{ℕ, _+_, _*_, _≤_, _<_}
 use mathlib.Core.Path.{_≡_, refl, sym, ap, _∙_}
 use mathlib.Core.List.{List, [], _∷_, _++_, map}
@@ -54,7 +54,7 @@ column-front is d few =
     ∙ join-cong (slot interval-size (map interval-bytes is)) (λ i. interval-bytes (getD is i d)) (length is)
     (λ i q. slot-map interval-size interval-bytes is i d q ∙ padded-full interval-size (interval-bytes (getD is i d)) (unfold interval-bytes bytes16 in refl))
 
--- what the view of column c hands back
+-- MODEL 16.2: the bytes of the view of column c are those of its intervals
 pub record-view : (d : Device) (b : Book) (c : ℕ) (i : Interval) → c < max-columns → length (intervals d b c) ≤ max-intervals
     → part (record-of d b) (column-at c) (interval-size * length (intervals d b c)) ≡ join-below (length (intervals d b c)) (λ k. interval-bytes (getD (intervals d b c) k i))
 record-view d b c i q few =

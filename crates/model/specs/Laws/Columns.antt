@@ -1,4 +1,4 @@
--- Heights, cells and tops: what holds of them for every kind. Assumes nothing.
+-- MODEL 3.3 to 3.6: what holds of heights, cells and tops for every kind. Assumes nothing.
 use Prim.Native.Nat.{ℕ, _*_, _≤_}
 use mathlib.Core.Path.{refl}
 use native.Mathlib.Nat.{mul-div-le}

@@ -1,5 +1,5 @@
--- A well-formed task where it fits: its blocks stand in free intervals, so n comes block by block; while it rises inside these intervals s stays, and n is
--- no less until a block meets an end. So the choice need only look at the ends. Assumes nothing.
+-- MODEL 11: a well-formed task where it fits. Its blocks stand in free intervals, so n comes block by block; while it rises inside these intervals s
+-- stays, and n is no less until a block meets an end. So the choice need only look at the ends. Assumes nothing.
 use Prim.Native.Nat.{ℕ, zero, suc, _+_, _-_, _*_, _%_, _≤_, _<_}
 use mathlib.Core.Path.{_≡_, refl, ap, _∙_}
 use mathlib.Core.Logic.{_⊎_, inl, inr}
@@ -64,7 +64,7 @@ module _ (d : Device) (b : Book) (t : List ℕ) (w : well-formed t ≡ true) (p 
   fit : (k : ℕ) → k < blocks t → Fitting d b (block t k) p y
   fit = fits-to d b t p y f
 
-  -- THEOREM: where a task fits, its blocks stand in the free intervals
+  -- THEOREM: where a task fits, its blocks stand in the free intervals (MODEL 11.1)
   pub stands : Stands (placed t p y) (columns d) (intervals d b)
   unfolding placed
   stands = record {
@@ -160,7 +160,7 @@ module _ (d : Device) (b : Book) (t : List ℕ) (w : well-formed t ≡ true) (n 
       let s = stands d b t w p y f in
       sum-pos (blocks t) _ n (λ k l. let h = at-home (placed t p y) (columns d) (intervals d b) s k l in omega (arith, s .full k l, h .below, h .above))
 
-  -- THEOREM: the position that is chosen fits, has the least n / s, and is the first of those by column and then by bottom
+  -- THEOREM: the position that is chosen fits, has the least n / s, and is the first of those by column and then by bottom (MODEL 11.5)
   pub chosen-at : (q z : ℕ) → chosen d b t ≡ at q z → Chosen (judge d b t) (half-rows d) (columns d) q z
   unfolding chosen judge
   chosen-at = choice-at (judge d b t) (half-rows d) s-pos (columns d)

@@ -1,4 +1,4 @@
--- The entries of a record when a task is put into the book and when one is taken out. Assumes nothing.
+-- MODEL 8.4: the entries of a record when a task is put into the book and when one is taken out. Assumes nothing.
 use Prim.Native.Nat.{ℕ, zero, suc, _-_, _≤_, _<_}
 use mathlib.Core.Path.{_≡_, refl, sym, ap}
 use mathlib.Core.Bool.{Bool, true, false, cond, _||_}

@@ -1,4 +1,4 @@
--- Where a block fits and where a task fits, as facts about numbers. Assumes nothing.
+-- MODEL 6: where a block fits and where a task fits, as facts about numbers. Assumes nothing.
 use Prim.Native.Nat.{ℕ, _+_, _-_, _%_, _≤_, _<_}
 use mathlib.Core.Path.{_≡_}
 use mathlib.Core.Bool.{true}
@@ -15,6 +15,7 @@ use Rattle.model.specs.Laws.Bounded.{and6-to, all-to, all-of}
 use Rattle.model.specs.Laws.Columns.{top-le}
 use Rattle.model.specs.Laws.Tasks.{first-block, full-block}
 
+-- MODEL 6.2 to 6.5 of a block, moved to column p and bottom y
 pub record Fitting (d : Device) (b : Book) (k : Block) (p y : ℕ) : Type 0 where
   pub column : p + k .column < columns d
   pub kind : kind d (p + k .column) ≡ k .kind
@@ -58,7 +59,7 @@ module _ (d : Device) (b : Book) (t : List ℕ) (p y : ℕ) where
   unfolding fits
   fits-of h = all-of (blocks t) (λ i. block-fits d b (block t i) p y) (λ k l. fitting-of d b (block t k) p y (h k l))
 
-  -- a fitting position is on the device
+  -- MODEL 6.6: a fitting position is on the device
   pub fits-below : well-formed t ≡ true → 1 ≤ blocks t → fits d b t p y ≡ true → (p < columns d) × (y < half-rows d)
   fits-below w n f =
       let g = fits-to f 0 n in

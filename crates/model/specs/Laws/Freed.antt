@@ -1,4 +1,4 @@
--- What is free once a task is entered, and once it is taken out: what a placement cuts from the free intervals, and what a release joins to them.
+-- MODEL 12.4 and 12.5: what is free once a task is entered, and once it is taken out: what place cuts from the intervals, and what release joins.
 -- Assumes nothing.
 use Prim.Native.Nat.{ℕ, _/_, _%_, _<_}
 use mathlib.Core.Path.{_≡_, sym, ap, _∙_}

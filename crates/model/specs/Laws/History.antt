@@ -1,6 +1,5 @@
--- THEOREM `history`, demand 3: one claim about every list of list, choose, place and release calls, refused ones included, on a record that new has just
--- made. The step of the list is `on-record`, the definition that the exported functions' contracts cite; the book's is `on-book`, which knows only the
--- device and the calls' arguments. Assumes nothing.
+-- MODEL 15: the theorem `history`, one claim about every history (demand 3). A call on the record is `on-record`, the definition that the contracts
+-- of the exported functions cite; one on the book is `on-book`, to which only the device, the book and the call are given. Assumes nothing.
 use Prim.Native.Nat.{ℕ, _≤_}
 use mathlib.Core.Path.{_≡_, refl, sym, ap, _∙_}
 use mathlib.Core.Logic.{inl, inr, _↔_, Iff·trans}
@@ -113,7 +112,7 @@ module _ (d : Device) (b : Book) (w : within d b ≡ true) (t : List ℕ) (s : s
 
 -- ---- the theorem
 
--- THEOREM, demand 3: whatever bytes r new was lent, whatever device it was given and answered 0 for, and whatever the calls
+-- THEOREM (MODEL 15.1): for any bytes r that new was lent, any device that it answered 0 for, and any calls
 pub history : (r : List ℕ) (rows : ℕ) (kinds : List ℕ) → new r rows kinds .answer ≡ pos 0 → (cs : List Call)
     → History (device rows kinds) (on-records (new r rows kinds .state) cs) (book-of-history (device rows kinds) cs)
 history r rows kinds e cs = after (on-records (new r rows kinds .state) cs) (book-of-history d cs) (from-new d r e cs)
@@ -141,7 +140,7 @@ history r rows kinds e cs = after (on-records (new r rows kinds .state) cs) (boo
               h .final ∙ same-records d (B .final) (book-of-history d cs′ .final) w (h′ .limits) m ∙ sym (h′ .final);
         }
 
--- its last part by itself
+-- its last part by itself (MODEL 15.8)
 pub same-tasks-same-record : (rows : ℕ) (kinds r r′ : List ℕ) → new r rows kinds .answer ≡ pos 0 → new r′ rows kinds .answer ≡ pos 0 → (cs cs′ : List Call)
     → ((e : Running) → In e (book-of-history (device rows kinds) cs .final) ↔ In e (book-of-history (device rows kinds) cs′ .final))
     → on-records (new r rows kinds .state) cs .final ≡ on-records (new r′ rows kinds .state) cs′ .final

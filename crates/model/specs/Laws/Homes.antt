@@ -1,4 +1,4 @@
--- Blocks that stand in free intervals: the interval that holds each of them, its home, and what each adds to n. Assumes nothing.
+-- MODEL 11.1: blocks that stand in free intervals, the interval in which each lies, its home, and what each adds to n. Assumes nothing.
 use Prim.Native.Nat.{ℕ, zero, suc, _+_, _≤_, _<_}
 use mathlib.Core.Path.{_≡_, refl, sym, _∙_}
 use mathlib.Core.Logic.{_⊎_, inl, inr}

@@ -1,4 +1,4 @@
--- The fitting positions stand in order, by column and then by bottom, each once. Assumes nothing.
+-- MODEL 10.5 and 15.6: the fitting positions stand in order, by column and then by bottom, each once. Assumes nothing.
 use Prim.Native.Nat.{ℕ, zero, suc}
 use mathlib.Core.Path.{_≡_, refl}
 use mathlib.Core.Logic.{_⊎_, inl, inr}
@@ -81,7 +81,7 @@ columns-ahead f h (suc c) =
     let L = join-below c (λ p. map (position p) (those-below h (f p))) in
     further c h (L ++ map (position c) (those-below h (f c))) (column (f c) c L (columns-ahead f h c) h)
 
--- THEOREM
+-- THEOREM: so do all
 pub fitting-in-order : (d : Device) (b : Book) (t : List ℕ) → InOrder (fitting d b t)
 unfolding fitting
 fitting-in-order d b t = columns-ahead (fits d b t) (half-rows d) (columns d) .order

@@ -1,4 +1,5 @@
--- Every call on the book keeps the device and the book within document 01's limits; and no two running tasks hold one cell. Assumes nothing.
+-- Every call on the book keeps the device and the book within the limits (MODEL 9.2 to 9.6); and no two running tasks hold one cell (MODEL 15.4).
+-- Assumes nothing.
 use Prim.Native.Nat.{ℕ, suc, _+_, _*_, _≤_, _<_}
 use mathlib.Core.Path.{_≡_, refl, sym, ap, _∙_}
 use mathlib.Core.Logic.{inl, inr}

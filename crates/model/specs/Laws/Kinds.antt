@@ -1,4 +1,4 @@
--- The kind type of the code against document 01's kind numbers. Assumes nothing.
+-- MODEL 3.3: the kinds of the code, and the numbers that they have in the model. Assumes nothing.
 use Prim.Native.Nat.{ℕ, _<_}
 use mathlib.Core.Path.{_≡_, refl, sym, subst, _∙_}
 use mathlib.Core.Bool.{true}

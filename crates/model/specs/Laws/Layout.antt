@@ -1,4 +1,4 @@
--- The layout of a record: bytes that are laid out from given parts, and a part or a byte replaced in place. Assumes nothing.
+-- MODEL 8.2: the layout of a record. Bytes that are laid out from given parts, and a part or a byte replaced in place. Assumes nothing.
 use Prim.Native.Nat.{ℕ, _+_, _*_, _≤_, _<_}
 use mathlib.Core.Path.{_≡_, sym, ap, _∙_}
 use mathlib.Core.List.{List}

@@ -1,4 +1,5 @@
--- What it is for a device and a book to be within document 01's limits, as facts about rows, columns, numbers, tasks and cells. Assumes nothing.
+-- MODEL 9.2 to 9.6: what it is for a device and a book to be within the limits, as facts about rows, columns, numbers, tasks and cells.
+-- Assumes nothing.
 use Prim.Native.Nat.{ℕ, zero, suc, _≤_, _<_}
 use mathlib.Core.Path.{_≡_, refl, sym, ap, _∙_}
 use mathlib.Core.Logic.{inl, inr}

@@ -1,4 +1,4 @@
--- A listing names each fitting position once, in order of column and then of bottom; and it is short. Assumes nothing.
+-- MODEL 10.5 and 12.6: a listing names each fitting position once, by column and then by bottom, and the output has space for it. Assumes nothing.
 use Prim.Native.Nat.{ℕ, zero, suc, _+_, _-_, _*_, _/_, _≤_, _<_}
 use mathlib.Core.Path.{_≡_, refl, sym, ap, ap₂, _∙_}
 use mathlib.Core.Logic.{_⊎_, inl, inr, _↔_}
@@ -116,7 +116,7 @@ module _ (d : Device) (b : Book) (t : List ℕ) (n : sized t ≡ true) where
   in-step : (p : ℕ) → InStep (step t) (fits d b t p)
   in-step p = fits-steps d b t p (sized-to t n .some-blocks)
 
-  -- THEOREM: the ranges of a listing name each fitting position once, by column and then by bottom
+  -- THEOREM: the ranges of a listing name each fitting position once, by column and then by bottom (MODEL 10.5)
   pub listing-names : join-in named (ranges d b t) ≡ fitting d b t
   unfolding ranges fitting
   listing-names =
@@ -130,7 +130,7 @@ module _ (d : Device) (b : Book) (t : List ℕ) (n : sized t ≡ true) where
     pub few-ranges : (p : ℕ) → length (runs (step t) (fits d b t p) (half-rows d)) ≤ max-intervals
     few-ranges p = few-runs (step t) (fits d b t p) (half-rows d) two (in-step p) (omega (arith, limits-to d b w .rows))
 
-    -- so a listing has at most 64 to a column, and its bytes fit into the output
+    -- so a listing has at most 64 to a column, and its bytes fit into the output (MODEL 12.6)
     pub ranges-length : length (ranges d b t) ≤ max-intervals * columns d
     unfolding ranges
     ranges-length = join-length max-intervals (columns d) _ (λ p. rw (length-map (runs (step t) (fits d b t p) (half-rows d)) (range-of p (step t))) (few-ranges p))

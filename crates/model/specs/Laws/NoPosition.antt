@@ -1,4 +1,4 @@
--- Choose finds no position, and list no range, just where no position of the device fits. Assumes nothing.
+-- MODEL 13.7: choose finds no position, and list no range, just where no position of the device fits. Assumes nothing.
 use Prim.Native.Nat.{ℕ, zero, suc, _≤_, _<_}
 use mathlib.Core.Path.{_≡_, refl}
 use mathlib.Core.Logic.{inl, _↔_}

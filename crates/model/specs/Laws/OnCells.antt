@@ -1,4 +1,4 @@
--- A task fits just where all its blocks fit cells that the book has free. Assumes nothing.
+-- MODEL 6 and 15.6: a task fits just where every block fits on free cells. Assumes nothing.
 use Prim.Native.Nat.{ℕ, _+_, _-_, _*_, _/_, _%_, _≤_, _<_}
 use mathlib.Core.Path.{_≡_, sym, ap, _∙_}
 use mathlib.Core.Logic.{_↔_}
@@ -67,7 +67,7 @@ module _ (d : Device) (b : Book) (w : within d b ≡ true) (k : Block) (p y : �
           ∙ f .free (z / h) (grid-below h (y + k .low - reach) z (height-pos (k .kind)) (f .grid) l) (omega arith)
 
 module _ (d : Device) (b : Book) (w : within d b ≡ true) (t : List ℕ) (f : well-formed t ≡ true) where
-  -- THEOREM: a task fits just where all its blocks fit cells that the book has free
+  -- THEOREM: a task fits just where all its blocks do so, cell by cell
   pub fits-cells : (p y : ℕ) → (fits d b t p y ≡ true) ↔ AllOnCells d b t p y
   fits-cells p y = (
     λ h k l. cells-to d b w (block t k) p y (fits-to d b t p y h k l),

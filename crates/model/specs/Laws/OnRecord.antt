@@ -1,4 +1,5 @@
--- A call on any byte string, by the first refusal that applies: what each return of an exported function shows. Assumes nothing.
+-- MODEL 12 and 13: a call on any string of bytes, by the first refusal that holds; this is what each return of an exported function shows.
+-- Assumes nothing.
 use Prim.Native.Nat.{ℕ, _≤_, _<_}
 use mathlib.Core.Path.{_≡_, refl, sym, ap, _∙_}
 use mathlib.Core.Logic.{_⊎_, inl, inr, _≢_}
@@ -72,7 +73,7 @@ left r c B P u v =
     judged l (inl s) = booked s (refused (refusals (device-of r) (book-of r) c)) refl
     judged l (inr s) = rw (not-sound-call r c l s) u
 
--- THEOREM: "Choose and list leave the record": a call that leaves the book leaves every byte, whatever bytes it was lent
+-- THEOREM (MODEL 12.7): a call that leaves the book leaves every byte, whatever bytes it was lent; so list and choose do
 pub asks-leave : (r : List ℕ) (c : Call) → Bytes r → ((d : Device) (b : Book) → done d b c .state ≡ b) → on-record r c .state ≡ r
 asks-leave r c B h =
     left r c B (λ s. s ≡ r) refl (λ s. ap (record-of (device-of r)) (h (device-of r) (book-of r)) ∙ sym (sound-record r B s))

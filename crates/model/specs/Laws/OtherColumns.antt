@@ -1,4 +1,4 @@
--- "The columns that the task does not cover keep their interval bytes": of place, on every byte string. Assumes nothing.
+-- MODEL 12.4: columns in which the task has no block keep their intervals' bytes, whatever bytes place is lent. Assumes nothing.
 use Prim.Native.Nat.{ℕ, _+_, _<_}
 use mathlib.Core.Path.{_≡_, refl, sym, ap, _∙_}
 use mathlib.Core.Bool.{false}

@@ -1,5 +1,4 @@
--- n, block by block: the free intervals that remain, after placing, inside the intervals that held blocks are as many as the blocks add.
--- Assumes nothing.
+-- MODEL 11.3: n, block by block. What is left of the intervals in which blocks lie is as many intervals as the blocks add. Assumes nothing.
 use Prim.Native.Nat.{ℕ, zero, suc, _+_, _≤_, _<_}
 use mathlib.Core.Path.{_≡_, refl, sym, ap, _∙_}
 use mathlib.Core.Logic.{_⊎_, inl, inr}

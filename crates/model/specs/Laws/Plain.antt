@@ -1,4 +1,4 @@
--- Within its limits, a record is its parts written one after the other, each filled up with zeros: nothing is cut. Assumes nothing.
+-- MODEL 8.6: within its limits, a record is its parts written one after the other, each filled up with zeros. Nothing is cut. Assumes nothing.
 use Prim.Native.Nat.{ℕ, zero, suc, _+_, _-_, _*_, _≤_, _<_}
 use mathlib.Core.Path.{_≡_, refl, sym, ap, ap₂, _∙_}
 use mathlib.Core.Bool.{true}

@@ -1,4 +1,4 @@
--- Blocks that rise together inside their intervals: s stays, and n is no less while no block meets an end of its interval. Assumes nothing.
+-- MODEL 11: blocks that rise together inside their intervals. s stays, and n is no less while no block meets an end of its interval. Assumes nothing.
 use Prim.Native.Nat.{ℕ, zero, suc, _+_, _≤_, _<_}
 use mathlib.Core.Path.{_≡_, refl, ap}
 use mathlib.Core.Logic.{inl, inr}

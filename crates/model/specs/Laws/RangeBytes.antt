@@ -1,4 +1,4 @@
--- The ranges of a listing are read back from its bytes: what a caller reads is what is listed. Assumes nothing.
+-- MODEL 10.6: the ranges of a listing are read back from its bytes, so a caller reads what is listed. Assumes nothing.
 use Prim.Native.Nat.{ℕ, zero, suc, _+_, _*_, _/_, _%_, _≤_, _<_}
 use mathlib.Core.Path.{_≡_, refl}
 use mathlib.Core.Logic.{inl, inr}

@@ -1,5 +1,5 @@
--- What is read from the record of a device and a book within the limits: the device, the book, the intervals, each entry's block count, and zeros.
--- Assumes nothing.
+-- MODEL 8.5 to 8.7: what the record of a device and a book within the limits says: the device, the book, the intervals, each entry's block count, and
+-- zeros. Assumes nothing.
 use Prim.Native.Nat.{ℕ, zero, suc, _+_, _-_, _*_, _/_, _≤_, _<_}
 use mathlib.Core.Path.{_≡_, refl, sym, ap, ap₂, _∙_}
 use mathlib.Core.Logic.{inl, inr}
@@ -57,7 +57,7 @@ entry-rest e w i h q =
 
 -- ---- within the limits
 
--- a running task within the limits stands on the device
+-- MODEL 9.10: a running task within the limits stands on the device
 pub entry-on : (d : Device) (e : Running) → Entry d e → (e .column < columns d) × (e .bottom < half-rows d)
 entry-on d e h = fits-below d [] (e .task) (e .column) (e .bottom) (h .well-formed) (sized-to (e .task) (h .sized) .some-blocks) (h .fits)
 

@@ -1,4 +1,4 @@
--- The record of a device and a book: its length, its parts, what is read back, and one column replaced. Assumes nothing.
+-- MODEL 8: the record of a device and a book, its length, its parts, what is read back, and one column replaced. Assumes nothing.
 use Prim.Native.Nat.{ℕ, _+_, _*_, _/_, _%_, _≤_, _<_}
 use mathlib.Core.Path.{_≡_, refl, sym, ap, _∙_}
 use mathlib.Core.Bool.{Bool, true, false, cond}
@@ -50,7 +50,7 @@ pub shows-image : (r : List ℕ) (d : Device) (b : Book) (is : ℕ → List Inte
 unfolding image
 shows-image r d b is x = layout-reads x
 
--- THEOREM: a record has 29,188 bytes
+-- THEOREM: a record has 29,188 bytes (MODEL 8.1)
 pub record-length : (d : Device) (b : Book) → length (record-of d b) ≡ record-size
 unfolding record-of
 record-length d b = image-shows d b (intervals d b) .size

@@ -1,4 +1,4 @@
--- Two books by rising number with the same tasks are one book, so their records are one record. Assumes nothing.
+-- MODEL 15.8: two books by rising number with the same tasks are one book, so their records are one record. Assumes nothing.
 use Prim.Native.Nat.{ℕ}
 use mathlib.Core.Path.{_≡_, refl, sym, ap, ap₂, _∙_}
 use mathlib.Core.Logic.{inl, inr, _↔_}

@@ -1,4 +1,5 @@
--- `lifted` is the value of a two-byte number in two's complement, plus `reach`. `ofZ w16 z` are the 16 bits of z, as the language has them. Assumes nothing.
+-- MODEL 4.3 and 4.9: `lifted` is the value of a signed number of two bytes, plus `reach`. `ofZ w16 z` are the 16 bits of z, as the language has them.
+-- Assumes nothing.
 use Prim.Native.Nat.{ℕ, suc, _+_, _*_, _≤_, _<_}
 use mathlib.Core.Path.{_≡_}
 use native.Mathlib.Omega.{arith}

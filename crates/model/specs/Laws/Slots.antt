@@ -1,5 +1,4 @@
--- The laws of `padded`, and of places of one size that hold pieces one after the other and then zeros.
--- Assumes nothing.
+-- The laws of `padded`, and of places of one size that hold pieces one after the other and then zeros (MODEL 8.5). Assumes nothing.
 use Prim.Native.Nat.{ℕ, zero, suc, _+_, _-_, _*_, _≤_, _<_}
 use mathlib.Core.Path.{_≡_, refl, sym, ap, _∙_}
 use mathlib.Core.List.{List, [], _∷_, _++_, map}

@@ -1,5 +1,5 @@
--- THEOREM: a byte string is sound just where the device and the book that it says are within the limits, and it is the record of these.
--- `sound` is document 01's sentence, clause by clause; this says that the sentence leaves nothing open. Assumes nothing.
+-- MODEL 9.9: a string of bytes is sound just where the device and the book that it says are within the limits, and it is the record of these.
+-- `sound` has the clauses one by one; this says that they leave nothing open. Assumes nothing.
 use Prim.Native.Nat.{ℕ, _+_, _-_, _≤_, _<_}
 use mathlib.Core.Path.{_≡_, sym, ap, ap₂, _∙_}
 use mathlib.Core.Logic.{_⊎_, inl, inr, _↔_}
@@ -166,6 +166,6 @@ pub sound-record : (r : List ℕ) → Bytes r → sound r ≡ true → r ≡ rec
 unfolding record-of
 sound-record r B s = shows-image r (device-of r) (book-of r) (intervals (device-of r) (book-of r)) (shows-said r (clauses-to r s) B)
 
--- THEOREM: sound is, exactly, to say what is within the limits and to be its record
+-- THEOREM (MODEL 9.9): to be sound is to say what is within the limits and to be the record of it
 pub sound-exactly : (r : List ℕ) → Bytes r → (sound r ≡ true) ↔ ((within (device-of r) (book-of r) ≡ true) × (r ≡ record-of (device-of r) (book-of r)))
 sound-exactly r B = (λ s. (sound-within r s, sound-record r B s), λ h. ap sound (h .1) ∙ record-sound (device-of r) (book-of r) (h .0))

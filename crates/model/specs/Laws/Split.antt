@@ -1,4 +1,5 @@
--- To fit in a book is to fit on the empty device and to cover nothing that is held; and what is held once a task is entered or taken out. Assumes nothing.
+-- MODEL 5 and 6: to fit in a book is to fit when no task runs and to cover nothing held; and what is held once a task is entered or taken out.
+-- Assumes nothing.
 use Prim.Native.Nat.{ℕ, _+_, _-_, _<_}
 use mathlib.Core.Path.{_≡_, refl, sym, ap, _∙_}
 use mathlib.Core.Logic.{_⊎_, inl, inr, _↔_}

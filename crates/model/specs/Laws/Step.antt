@@ -1,4 +1,5 @@
--- One call: on the record of a book it does what it does on the book, and it finds no bad record; and when list and choose answer −9. Assumes nothing.
+-- MODEL 15.2, 15.3 and 15.7 of one call: on the record of a book it does what it does on the book, it finds no bad record, and when list and choose
+-- answer −9. Assumes nothing.
 use Prim.Native.Nat.{ℕ, zero, suc, _+_, _*_, _≤_}
 use mathlib.Core.Path.{_≡_, refl, _∙_}
 use mathlib.Core.Logic.{_↔_}
@@ -49,7 +50,7 @@ from-four d b (choose t) = omega arith
 from-four d b (place t n p y) = omega arith
 from-four d b (release n) = omega arith
 
--- an answer that is neither "the record is not 29,188 bytes" nor "the record is not sound"
+-- an answer that is neither −1 nor −2
 abbrev pub Fine : ℤ → Type 0
 Fine a = ¬ (a ≡ negℤ (pos 1)) × ¬ (a ≡ negℤ (pos 2))
 
@@ -111,7 +112,7 @@ module _ (d : Device) (b : Book) (t : List ℕ) (s : sized t ≡ true) (f : well
   unfolding on-book refusals refused
   choose-nine = rw (s, f)
 
-  -- THEOREM: where some position fits, choose answers the one that document 01 defines, and leaves the book
+  -- THEOREM: where some position fits, choose answers the choice (MODEL 11.5 and 11.6), and leaves the book
   pub choose-done : no-position d b t ≡ false
       → (p y : ℕ) × Chosen (judge d b t) (half-rows d) (columns d) p y × (on-book d b (choose t) ≡ record { answer = pos (p * column-weight + y); output = []; state = b })
   unfolding unless done position-number

@@ -1,4 +1,5 @@
--- The step of a task is the least common multiple of its heights, so the fitting bottoms in one column lie in one class of it. Assumes nothing.
+-- MODEL 10.1 and 10.2: the step of a task is the least common multiple of its heights, so the fitting bottoms in one column lie in one class of it.
+-- Assumes nothing.
 use Prim.Native.Nat.{ℕ, suc, _+_, _-_, _*_, _≤_, _<_}
 use mathlib.Core.Path.{_≡_, refl, ap}
 use mathlib.Core.Bool.{Bool, true, false, not, cond}
@@ -27,8 +28,8 @@ module _ (t : List ℕ) where
   abbrev other : ℕ → Bool
   other i = not (logic i)
 
-  -- THEOREM, "The step is 2 when all blocks are C, 5 when none is, 10 when both occur": it is the least common multiple of all heights.
-  -- What is said below, and elsewhere, of fitting, listing and choosing in steps rests on this, and not on the three numbers.
+  -- THEOREM: the step (MODEL 10.1) is the least common multiple of all heights. What is said below, and elsewhere, of fitting, listing and choosing
+  -- in steps rests on this, and not on the three numbers (MODEL 21.4).
   pub common-step : 1 ≤ blocks t → Common t (blocks t) (step t)
   unfolding step height
   common-step n = go (any-below (blocks t) logic) refl (any-below (blocks t) other) refl
@@ -78,6 +79,6 @@ module _ (d : Device) (b : Book) (t : List ℕ) (p : ℕ) where
   fits-common s c y z f g l =
       multiple-steps s y z l (c .least (z - y) (λ k i. block-apart d b (block t k) p y z (fits-to d b t p y f k i) (fits-to d b t p z g k i) l))
 
-  -- so in steps of the task's step
+  -- so in steps of the task's step (MODEL 10.2)
   pub fits-steps : 1 ≤ blocks t → InStep (step t) (fits d b t p)
   fits-steps n = fits-common (step t) (common-step t n)

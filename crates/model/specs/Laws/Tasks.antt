@@ -1,4 +1,4 @@
--- What it is to be a task of whole blocks, and well-formed. Assumes nothing.
+-- MODEL 4: what it is to be a task of whole blocks, and well-formed. Assumes nothing.
 use Prim.Native.Nat.{ℕ, zero, suc, _+_, _-_, _*_, _%_, _≤_, _<_}
 use mathlib.Core.Path.{_≡_}
 use mathlib.Core.Logic.{_⊎_, inl, inr}
@@ -82,7 +82,7 @@ module _ (t : List ℕ) (w : well-formed t ≡ true) where
   next-block k l =
       follows-to (block t k) (block t (suc k)) (rw add-one at (all-to (blocks t - 1) (λ i. follows (block t i) (block t (i + 1))) (parts-of .3) k (omega arith)))
 
-  -- THEOREM: of any two blocks the earlier stands in a lower column, or below in the same column without touching
+  -- THEOREM: of any two blocks the earlier stands in a lower column, or below in the same column without touching (MODEL 4.6 and 4.7)
   pub in-order : (j k : ℕ) → j < k → k < blocks t → Before (block t j) (block t k)
   in-order j zero l g = absurd (omega arith)
   in-order j (suc k) l g = go (lt-or-ge j k) (λ h. in-order j k h (omega arith))

@@ -1,4 +1,4 @@
--- What bytes say, written again, gives these bytes: a two-byte number, an entry, a column's part. Assumes nothing.
+-- MODEL 8.7 and 9.9: what bytes say, written again, gives these bytes. A number of two bytes, an entry, a column's part. Assumes nothing.
 use Prim.Native.Nat.{ℕ, _+_, _-_, _*_, _/_, _≤_, _<_}
 use mathlib.Core.Path.{_≡_, refl, sym, ap, ap₂, _∙_}
 use mathlib.Core.Logic.{_⊎_, inl, inr}

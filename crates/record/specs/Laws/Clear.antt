@@ -1,4 +1,4 @@
--- The record of a new card, written byte by byte: zeros, the head, and then one column after the other. Assumes nothing.
+-- MODEL 12.3: the record of a new card, written byte by byte, zeros, the head, and then one column after the other. Assumes nothing.
 use Prim.Native.Nat.{ℕ, suc, _+_, _/_, _%_, _≤_, _<_}
 use mathlib.Core.Path.{_≡_, refl, sym, ap, _∙_}
 use mathlib.Core.Logic.{inl}

@@ -1,4 +1,5 @@
--- A task's blocks taken from the free intervals one after the other: at the end they are those of the book with the task in it. Assumes nothing.
+-- MODEL 12.4: a task's blocks taken from the free intervals one after the other; at the end these are those of the book with the task in it.
+-- Assumes nothing.
 use Prim.Native.Nat.{ℕ, suc, _+_, _≤_, _<_}
 use mathlib.Core.Path.{_≡_, refl}
 use mathlib.Core.Logic.{_⊎_, inl, inr, _↔_, _≢_}

@@ -1,4 +1,4 @@
--- What holds of kind bytes tested one by one, and of a device tested limit by limit. Assumes nothing.
+-- MODEL 3.2 and 3.3: what holds of kind bytes tested one by one, and of a device tested limit by limit. Assumes nothing.
 use Prim.Native.Nat.{ℕ, suc, _≤_, _<_}
 use mathlib.Core.Path.{_≡_, refl, sym}
 use mathlib.Core.Bool.{true, false}

@@ -1,4 +1,4 @@
--- A task entered, as the code goes: its blocks taken, and the record when its entry is put in. Assumes nothing.
+-- MODEL 12.4: a task entered, as the code goes. Its blocks are taken, and its entry is put in. Assumes nothing.
 use Prim.Native.Nat.{ℕ, _+_, _-_, _≤_, _<_}
 use mathlib.Core.Path.{_≡_, ap, _∙_}
 use mathlib.Core.Bool.{true}

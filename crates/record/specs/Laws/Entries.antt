@@ -1,4 +1,4 @@
--- Entries found by their number, and the place of a number. Assumes nothing.
+-- MODEL 8.4: entries found by their number, and the place of a number. Assumes nothing.
 use Prim.Native.Nat.{ℕ, zero, suc, _-_, _≤_, _<_}
 use mathlib.Core.Path.{_≡_, refl, sym, ap, _∙_}
 use mathlib.Core.Bool.{true, false}

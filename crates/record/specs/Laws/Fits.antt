@@ -1,4 +1,5 @@
--- Why `fits` is right: each test that refuses is one of the model's, and where all pass, a free interval holds the block just where it fits. Assumes nothing.
+-- MODEL 6: why `fits` is right. Each test that refuses is one of the model's, and where all pass, a free interval holds the block just where it fits.
+-- Assumes nothing.
 use Prim.Native.Nat.{ℕ, _+_, _-_, _*_, _%_, _≤_, _<_}
 use mathlib.Core.Path.{_≡_, sym, _∙_}
 use mathlib.Core.Logic.{_⊎_, inl, inr}

@@ -1,4 +1,5 @@
--- A running task's blocks joined to the free intervals one after the other: at the end they are those of the book without the task. Assumes nothing.
+-- MODEL 12.5: a running task's blocks joined to the free intervals one after the other; at the end these are those of the book without the task.
+-- Assumes nothing.
 use Prim.Native.Nat.{ℕ, suc, _+_, _≤_, _<_}
 use mathlib.Core.Path.{_≡_, refl}
 use mathlib.Core.Logic.{_⊎_, inl, inr, _↔_, _≢_}

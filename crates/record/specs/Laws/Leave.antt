@@ -1,4 +1,4 @@
--- A running task taken out, as the code goes: its entry read from its bytes, its blocks freed, and the record when its entry is gone. Assumes nothing.
+-- MODEL 12.5: a running task taken out, as the code goes. Its entry is read from its bytes, its blocks are freed, and its entry goes. Assumes nothing.
 use Prim.Native.Nat.{ℕ, suc, _+_, _-_, _*_, _≤_, _<_}
 use mathlib.Core.Path.{_≡_, sym, ap, _∙_}
 use mathlib.Core.Bool.{true}

@@ -1,4 +1,4 @@
--- Entries moved by one place, and an entry written, put in and taken out. Assumes nothing.
+-- MODEL 8.4: entries moved by one place, and an entry written, put in and taken out. Assumes nothing.
 use Prim.Native.Nat.{ℕ, zero, suc, _+_, _-_, _≤_, _<_}
 use mathlib.Core.Path.{_≡_, refl, sym, ap, _∙_}
 use mathlib.Core.Bool.{true}

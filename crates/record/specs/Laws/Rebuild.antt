@@ -1,5 +1,5 @@
--- Why `sound` is right: in a sound record every running task passes each test and may be entered after those before it, and a record that is equal to what
--- was rebuilt is sound. Assumes nothing.
+-- MODEL 9.9: why `sound` is right. In a sound record every running task passes each test and may be entered after those before it, and a record that
+-- is equal to what was rebuilt is sound. Assumes nothing.
 use Prim.Native.Nat.{ℕ, suc, _+_, _-_, _*_, _%_, _≤_, _<_}
 use mathlib.Core.Path.{_≡_, refl, sym, ap, _∙_}
 use mathlib.Core.Logic.{_⊎_, inl, inr}

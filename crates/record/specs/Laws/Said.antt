@@ -1,4 +1,4 @@
--- What the bytes of a running entry say. Assumes nothing.
+-- MODEL 8.4 and 8.7: what the bytes of a running entry say. Assumes nothing.
 use Prim.Native.Nat.{ℕ, _+_, _*_, _≤_, _<_}
 use mathlib.Core.Path.{_≡_, ap, _∙_}
 use mathlib.Core.List.{List}

@@ -1,5 +1,5 @@
 -- The walk along two lists of runs that lists what both name: always the two current runs are met, and the one that ends first is passed.
--- It holds for any two steps. Assumes nothing.
+-- It holds for any two steps (MODEL 21.4), and no run is split where it could be one (MODEL 20.4). Assumes nothing.
 use mathlib.Core.Path.{_≡_, refl}
 use mathlib.Core.Logic.{_⊎_, inl, inr, _↔_}
 use mathlib.Core.Bool.{Bool, true, false, _&&_, and-eq-true-iff}

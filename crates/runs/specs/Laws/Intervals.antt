@@ -1,4 +1,4 @@
--- The laws of half-open intervals. Assumes nothing.
+-- MODEL 7: the laws of half-open intervals, of cutting (MODEL 12.4) and of joining (MODEL 12.5). Assumes nothing.
 use mathlib.Core.Path.{_≡_, refl, sym, ap, ap₂, _∙_}
 use mathlib.Core.Logic.{_⊎_, inl, inr, _↔_}
 use mathlib.Core.Bool.{Bool, true, false}
@@ -232,7 +232,7 @@ apart-unique L M c d e = go (as-runs 0 L c) (as-runs 0 M d)
           λ h. named-to 0 y R f (rw (← a) at (e y .1 (rw b at (named-of y Q h)))),
         )
 
--- THEOREM 1 for intervals
+-- THEOREM 1 for intervals: `intervals f n` is canonical and names exactly the y < n with f y
 pub intervals-free : (f : ℕ → Bool) (n : ℕ) → Free f n (intervals f n)
 unfolding intervals
 intervals-free f n =

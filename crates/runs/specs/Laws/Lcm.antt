@@ -1,4 +1,4 @@
--- The laws of the least common multiple, and of the search for it. Assumes nothing.
+-- The laws of the least common multiple, and of the search for it, for any steps (MODEL 21.4). Assumes nothing.
 use mathlib.Core.Path.{_≡_, sym, ap, _∙_}
 use mathlib.Core.Logic.{_⊎_, inl, inr}
 use Prim.Native.Nat.{ℕ, zero, suc, _+_, _-_, _*_, _/_, _%_, _≤_, _<_}

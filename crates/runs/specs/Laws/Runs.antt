@@ -1,4 +1,4 @@
--- The canonical list of a test: `runs` is it. Assumes nothing.
+-- MODEL 10.4 and 10.5: the canonical list of a test; `runs` is it. Assumes nothing.
 use mathlib.Core.Path.{_≡_, refl, sym, ap, _∙_}
 use mathlib.Core.Logic.{_⊎_, inl, inr, _↔_}
 use mathlib.Core.Bool.{Bool, true, false, not, _&&_, _||_, true≢false, false≢true, and-eq-true-iff, or-true}

@@ -1,4 +1,4 @@
--- What holds of the code's blocks: each is the model's, and so are the tests on one, on two neighbours and on the first. Assumes nothing.
+-- MODEL 4.5 to 4.10: the code's blocks are the model's, and so are the tests on one, on two neighbours and on the first. Assumes nothing.
 use Prim.Native.Nat.{ℕ, _+_, _*_, _≤_, _<_}
 use mathlib.Core.Path.{_≡_, sym, ap, ap₂, _∙_}
 use mathlib.Core.Bool.{Bool, true, false}

@@ -1,4 +1,4 @@
--- What holds of the kinds that a task's blocks have, and so of its step. Assumes nothing.
+-- MODEL 10.1: what holds of the kinds that a task's blocks have, and so of its step. Assumes nothing.
 use Prim.Native.Nat.{ℕ, _+_, _≤_, _<_}
 use mathlib.Core.Path.{_≡_, refl}
 use mathlib.Core.Bool.{Bool, true, false, not, or-true, or-false}

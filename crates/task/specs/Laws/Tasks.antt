@@ -1,4 +1,4 @@
--- What holds of a task tested block by block. Assumes nothing.
+-- MODEL 4.4: what holds of a task tested block by block. Assumes nothing.
 use Prim.Native.Nat.{ℕ, suc, _+_, _-_, _≤_, _<_}
 use mathlib.Core.Path.{_≡_, sym, _∙_}
 use mathlib.Core.Logic.{_⊎_, inl, inr}
