@@ -1,4 +1,4 @@
--- What a line finds and what it leaves: a record, a draft's bytes and an output, by document 01's line by the book. Assumes nothing.
+-- MODEL 18: what a line finds and what it leaves (a record, a draft's bytes and an output), by the model's line by the book. Assumes nothing.
 use Prim.Native.Nat.{ℕ, _+_, _*_, _/_, _%_, _≤_}
 use mathlib.Core.Path.{_≡_}
 use mathlib.Core.Bool.{true}
@@ -20,7 +20,7 @@ use Rattle.line.specs.Calls.{call-said}
 use Rattle.line.specs.declared.call.BlockCall.{BlockCall}
 use Rattle.line.specs.declared.call.Call.the-variants.{Block}
 
--- "A task is 1 to 32 blocks of 6 bytes": the bytes of the greatest draft
+-- MODEL 4.1: the bytes of the greatest draft
 abbrev pub draft-room : ℕ
 draft-room = block-size * max-blocks
 

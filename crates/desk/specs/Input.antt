@@ -1,4 +1,4 @@
--- The input's lines, and what its first three lead to. Assumes nothing.
+-- MODEL 17.1, 18.5, 18.6: the input's lines, and what its first three lead to. Assumes nothing.
 use Prim.Native.Nat.{ℕ, _+_, _-_, _≤_}
 use mathlib.Core.Path.{_≡_}
 use mathlib.Core.Bool.{true}

@@ -23,7 +23,7 @@ pub fn leave(used: usize, printed: usize) -> Left
     }
 }
 
-// B: a block more in the draft. "A 33rd block prints −4 and is not added."
+// B: a block more in the draft, while there is room (MODEL 18.10, 18.11).
 pub fn add_block(
     draft: &mut [u8],
     used: usize,

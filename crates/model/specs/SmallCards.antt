@@ -18,6 +18,7 @@ use Rattle.model.specs.Sound.{number-ok}
 use Rattle.model.specs.Calls.{Call, list, choose, place, release, lent, refused, no-position, runs-in, refusals, insert, without, natural, range-bytes, over, position-number, done, unless, on-book}
 use Rattle.model.specs.History.{trace, book-of-history}
 use Rattle.model.specs.Program.{block-bytes}
+use Rattle.model.specs.Homes.{bit}
 
 -- ---- how the rows are written
 
@@ -118,6 +119,23 @@ held-2-4 = place C-2 1 0 (pos 2) ∷ []
 held-2-6 : List Call
 held-2-6 = held-2-4 ++ (place C-2 2 0 (pos 4) ∷ [])
 
+-- blocks that touch, and blocks apart
+K8-touching : List ℕ
+K8-touching = C-block 0 0 2 ++ C-block 0 2 4
+
+K8-apart : List ℕ
+K8-apart = C-block 0 0 2 ++ C-block 0 4 6
+
+K9-task : List ℕ
+K9-task = B-block 0 0 4
+
+-- each call that takes a task
+unfoldable with-task : List ℕ → List Call
+with-task t = list t room ∷ choose t ∷ place t 1 0 (pos 0) ∷ []
+
+minus-5 : List ℤ
+minus-5 = negℤ (pos 5) ∷ negℤ (pos 5) ∷ negℤ (pos 5) ∷ []
+
 -- ---- the table
 
 -- MODEL 19.1: K8 and K9 are tried on the cards of K7 and K2
@@ -136,16 +154,17 @@ table =
     ∷ row 6 (answers K6 (list C-4 room ∷ choose C-4 ∷ [])) (negℤ (pos 9) ∷ negℤ (pos 9) ∷ [])
     ∷ row 7 (numbers (left K7 (held-2-6 ++ (release 1 ∷ [])))) (numbers (0 ∷ 4 ∷ 6 ∷ 10 ∷ []))
     ∷ row 7 (numbers (left K7 (held-2-6 ++ (release 1 ∷ release 2 ∷ [])))) (numbers (0 ∷ 10 ∷ []))
-    ∷ row 8 (answers K7 (choose (C-block 0 0 2 ++ C-block 0 2 4) ∷ [])) (negℤ (pos 5) ∷ [])
-    ∷ row 8 (answers K7 (choose (C-block 0 0 2 ++ C-block 0 4 6) ∷ [])) (pos 0 ∷ [])
-    ∷ row 9 (answers K2 (choose (B-block 0 0 4) ∷ [])) (negℤ (pos 5) ∷ [])
+    ∷ row 8 (answers K7 (with-task K8-touching)) minus-5
+    ∷ row 8 (numbers (bit (well-formed K8-apart) ∷ [])) (numbers (1 ∷ []))
+    ∷ row 8 (answers K7 (with-task K8-apart)) (pos 1 ∷ pos 0 ∷ pos 0 ∷ [])
+    ∷ row 9 (answers K2 (with-task K9-task)) minus-5
     ∷ row 10 (numbers (listed K3 line-8 C-4)) (numbers (0 ∷ 0 ∷ 2 ∷ 0 ∷ 0 ∷ 6 ∷ 2 ∷ 6 ∷ 1 ∷ 6 ∷ 2 ∷ 6 ∷ []))
     ∷ row 10 (answers K3 (line-8 ++ (list C-4 room ∷ choose C-4 ∷ []))) (pos 0 ∷ pos 3 ∷ pos 0 ∷ [])
     ∷ []
 
 -- THEOREM: the definitions give what MODEL 19.1 states, card by card
 pub small-cards : map (λ (r : Row). r .found) table ≡ map (λ (r : Row). r .stated) table
-unfolding K1 K2 K3 K4 K5 K6 K7 C-2 C-4 B-5 lines-4-6 line-8 K4-task K5-task held-2-4 held-2-6 table listed answers left score block-bytes
+unfolding K1 K2 K3 K4 K5 K6 K7 C-2 C-4 B-5 lines-4-6 line-8 K4-task K5-task held-2-4 held-2-6 K8-touching K8-apart K9-task with-task minus-5 table listed answers left score block-bytes
     all-below any-below sum-below join-below those-below all-in any-in sum-in join-in
     runs push maximal-runs
     height cells-in top-in columns kind cells top
