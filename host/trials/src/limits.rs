@@ -19,13 +19,13 @@ fn largest(kind: impl Fn(u8) -> Kind) -> Device {
     Device::new(128, &kinds).expect("the limits are kept")
 }
 
-/// The largest device with logic in columns 0 and 63 only, so that few positions are to be tried.
-fn logic_at_both_ends() -> Device {
-    largest(|column| match column {
+/// Logic in columns 0 and 63 only, so that few positions are to be tried.
+fn logic_at_both_ends(column: u8) -> Kind {
+    match column {
         0 | 63 => Kind::C,
         1..32 => Kind::B,
         _ => Kind::D,
-    })
+    }
 }
 
 /// So many blocks of one cell in one column, a block in every so many cells.
@@ -43,7 +43,8 @@ fn at_cell(column: usize, kind: Kind, cell: usize) -> Position {
     }
 }
 
-/// Lists and chooses on a card of 64 logic columns, in each of which one task holds every fourth cell.
+/// Lists on a card of 64 logic columns, in each of which one task holds every fourth cell, and chooses
+/// for so many of the tasks that were listed.
 ///
 /// The longest of the listings has 63 ranges in each column; answers how many that was.
 pub fn thousands_of_ranges(subject: &dyn Calls, choices: usize) -> Trial<i32> {
@@ -57,8 +58,8 @@ pub fn thousands_of_ranges(subject: &dyn Calls, choices: usize) -> Trial<i32> {
     let mut pair = Pair::on_book(subject, book);
     let next_column = bytes_of(&[block(0, Kind::C, 0, 1), block(1, Kind::C, 4, 1)]);
     let tasks = [
-        comb(Kind::C, 2, 2),
         comb(Kind::C, MAX_BLOCKS, 4),
+        comb(Kind::C, 2, 2),
         comb(Kind::C, 1, 1),
         next_column,
     ];
@@ -66,8 +67,8 @@ pub fn thousands_of_ranges(subject: &dyn Calls, choices: usize) -> Trial<i32> {
     for task in &tasks {
         most = most.max(pair.call(&list_call(task))?);
     }
-    // The second has few positions; each of the others has thousands to be scored.
-    for task in tasks.iter().skip(1).take(choices) {
+    // The first has few positions; each of the others has thousands to be scored.
+    for task in tasks.iter().take(choices) {
         pair.call(&choose_call(task))?;
     }
     Ok(most)
@@ -76,7 +77,7 @@ pub fn thousands_of_ranges(subject: &dyn Calls, choices: usize) -> Trial<i32> {
 /// Cuts the columns at both ends into 64 intervals, and a memory and a multiplier column into 25, and
 /// makes them whole again; counts and lists on the way. Answers the most intervals of a column.
 pub fn columns_full_of_intervals(subject: &dyn Calls) -> Trial<i32> {
-    let mut pair = Pair::new(subject, logic_at_both_ends())?;
+    let mut pair = Pair::new(subject, largest(logic_at_both_ends))?;
     let mut most = 0;
     for column in [31, 62, 63, 0] {
         let kind = pair.book().device().kinds()[column];
@@ -112,15 +113,9 @@ fn make_whole(mut pair: Pair) -> Trial<()> {
 /// Tasks with a block of all half rows, over all columns, or as far down as a block may be.
 fn greatest_tasks() -> Vec<Vec<Block>> {
     let foot = block(0, Kind::C, 0, 1);
-    let all_columns = |kind: fn(u8) -> Kind| {
-        let others = (1..MAX_BLOCKS as u8).map(|n| block(2 * n + 1, kind(2 * n + 1), 0, 1));
-        [foot].into_iter().chain(others).collect()
-    };
-    let kind = |column| match column {
-        63 => Kind::C,
-        1..32 => Kind::B,
-        _ => Kind::D,
-    };
+    let odd_columns = (3..64).step_by(2);
+    let blocks = odd_columns.map(|column| block(column, logic_at_both_ends(column), 0, 1));
+    let over_all_columns = [foot].into_iter().chain(blocks).collect();
     vec![
         vec![block(0, Kind::C, 0, 128)],
         vec![block(0, Kind::B, 0, 51)],
@@ -136,7 +131,7 @@ fn greatest_tasks() -> Vec<Vec<Block>> {
         ],
         // Half rows −256 to 256 can be named, yet no device has them all.
         vec![foot, block(63, Kind::C, -256, 256)],
-        all_columns(kind),
+        over_all_columns,
     ]
 }
 
@@ -154,7 +149,7 @@ fn tasks_past_the_limits() -> Vec<Vec<Block>> {
 
 /// Lists, chooses, places and releases the greatest tasks on the largest device; answers how many fitted.
 pub fn greatest(subject: &dyn Calls) -> Trial<usize> {
-    let pair = Pair::new(subject, logic_at_both_ends())?;
+    let pair = Pair::new(subject, largest(logic_at_both_ends))?;
     let mut fitting = 0;
     for blocks in greatest_tasks().into_iter().chain(tasks_past_the_limits()) {
         let task = bytes_of(&blocks);
@@ -209,7 +204,7 @@ const TOO_HIGH: [u32; 5] = [1 << 8, 1 << 16, 1 << 24, 1 << 31, u32::MAX << 8];
 
 /// Makes calls whose column, number or bottom is right but for high bits; answers how many were refused.
 pub fn past_the_limits(subject: &dyn Calls) -> Trial<usize> {
-    let mut pair = Pair::new(subject, logic_at_both_ends())?;
+    let mut pair = Pair::new(subject, largest(logic_at_both_ends))?;
     let task = comb(Kind::C, 1, 1);
     let numbers = [1, 255, 256, 257, LAST_NUMBER];
     for (index, &number) in numbers.iter().enumerate() {

@@ -230,7 +230,7 @@ fn small_histories(subject: &dyn Calls, size: Size) -> Trial<()> {
 }
 
 fn listings_of_thousands_of_ranges(subject: &dyn Calls, size: Size) -> Trial<()> {
-    let most = limits::thousands_of_ranges(subject, size.of(1, 3))?;
+    let most = limits::thousands_of_ranges(subject, size.of(1, 4))?;
     worth(size, most == 63 * 64, most)
 }
 
