@@ -70,15 +70,24 @@ pub fn used_card(rng: &mut Rng, device: Device, most_calls: usize) -> Book {
     book
 }
 
-/// Two blocks in neighbouring columns, of different heights, the second at every offset.
+/// Blocks of two heights in neighbouring columns, the second at every offset: two of them in several
+/// sizes, and three of them.
 pub fn mixed_tasks(first: Kind, second: Kind) -> Vec<Vec<u8>> {
-    (-13..=13)
-        .flat_map(|offset| [(1, 1), (3, 1), (1, 2)].map(|cells| (offset, cells)))
-        .map(|(offset, (lower, upper))| {
-            let blocks = [block(0, first, 0, lower), block(1, second, offset, upper)];
-            bytes_of(&blocks)
-        })
-        .collect()
+    let two = |offset, lower, upper| {
+        let blocks = [block(0, first, 0, lower), block(1, second, offset, upper)];
+        blocks.to_vec()
+    };
+    let with_third = |offset| {
+        // On the grid of the first, or the three would fit nowhere.
+        let third = block(2, first, 2 * first.height() as i16, 1);
+        [two(offset, 1, 1), vec![third]].concat()
+    };
+    let shapes = |offset| {
+        let twos = [(1, 1), (3, 1), (1, 2)].map(|(lower, upper)| two(offset, lower, upper));
+        twos.into_iter().chain([with_third(offset)])
+    };
+    let tasks = (-13..=13).flat_map(shapes);
+    tasks.map(|blocks| bytes_of(&blocks)).collect()
 }
 
 /// Lists, chooses, places and releases shapes of two steps on cards with held cells.

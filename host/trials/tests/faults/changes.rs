@@ -211,6 +211,20 @@ pub fn joins_below_only(right: &dyn Calls, _: &Past, record: &mut [u8], number: 
     })
 }
 
+pub fn joins_no_two(right: &dyn Calls, _: &Past, record: &mut [u8], number: u32) -> i32 {
+    release_with(right, record, number, |old, new| {
+        let split = |(bottom, top): (u16, u16)| {
+            let below = old.iter().find(|below| below.0 == bottom && below.1 < top);
+            let above = old.iter().find(|above| above.1 == top && above.0 > bottom);
+            match (below, above) {
+                (Some(&below), Some(&above)) => vec![below, (below.1, above.0), above],
+                _ => vec![(bottom, top)],
+            }
+        };
+        new.into_iter().flat_map(split).collect()
+    })
+}
+
 /// A memory or multiplier cell from half row 60 up that is released between two held ones is lost.
 pub fn high_cell_lost(right: &dyn Calls, _: &Past, record: &mut [u8], number: u32) -> i32 {
     release_with(right, record, number, |old, new| {

@@ -31,6 +31,7 @@ faults! {
 
     "release does nothing": Release(release_does_nothing);
     "release joins below only": Release(joins_below_only);
+    "release between two free stretches joins neither": Release(joins_no_two);
     "release leaves the last entry's bytes": Release(release_leaves_bytes);
     "release finds nothing after 250 changes": Release(release_after_many);
     "release among 49 tasks frees logic only": Release(release_logic_only);
@@ -41,6 +42,9 @@ faults! {
         List(list_unless_almost_full), Choose(choose_unless_almost_full);
     "no position with one offset of two steps":
         List(list_but_one_offset), Choose(choose_but_one_offset);
+    "no position for three blocks of two steps":
+        List(list_but_three_blocks), Choose(choose_but_three_blocks);
+    "no position where the topmost alone is left": List(list_but_topmost);
     "list gives up above 300 ranges": List(list_up_to_300);
     "the same listing every time": List(fixed_listing);
     "list answers one range too many": List(one_range_too_many);

@@ -88,6 +88,35 @@ pub fn choose_but_one_offset(right: &dyn Calls, record: &[u8], task: &[u8]) -> i
     choose_unless(right, record, task, || has_lost_offset(task))
 }
 
+/// Whether a task has three blocks, not all of one height.
+fn is_three_of_two_steps(task: &[u8]) -> bool {
+    Task::from_bytes(task).is_ok_and(|task| task.blocks().len() == 3 && task.step() == 10)
+}
+
+pub fn list_but_three_blocks(r: &dyn Calls, record: &[u8], task: &[u8], output: &mut [u8]) -> i32 {
+    list_unless(r, record, task, output, |_| is_three_of_two_steps(task))
+}
+
+pub fn choose_but_three_blocks(right: &dyn Calls, record: &[u8], task: &[u8]) -> i32 {
+    choose_unless(right, record, task, || is_three_of_two_steps(task))
+}
+
+/// Whether a listing names one position, with no room for a further cell above the first block.
+fn is_topmost(record: &[u8], task: &[u8], ranges: &[u8]) -> bool {
+    let is_one = ranges.len() == RANGE_SIZE && ranges[2..4] == ranges[4..6];
+    let first = read_blocks(task).and_then(|blocks| blocks.first().copied());
+    first.is_some_and(|first| {
+        let end = i64::from(word(ranges, 2)) + i64::from(first.top) + first.kind.height();
+        is_one && end > 2 * i64::from(word(record, ROWS_AT))
+    })
+}
+
+pub fn list_but_topmost(r: &dyn Calls, record: &[u8], task: &[u8], output: &mut [u8]) -> i32 {
+    list_unless(r, record, task, output, |ranges| {
+        is_topmost(record, task, ranges)
+    })
+}
+
 pub fn fixed_listing(right: &dyn Calls, record: &[u8], task: &[u8], output: &mut [u8]) -> i32 {
     let answer = right.list(record, task, output);
     if answer <= 0 {
