@@ -5,7 +5,7 @@ use oracle::layout::*;
 use oracle::Refusal;
 
 use crate::faulty::{Past, Placing};
-use crate::searches::without_blocks_of_no_cell;
+use crate::searches::{on_the_grid, without_blocks_of_no_cell};
 
 /// How many tasks a record says are running.
 fn running(record: &[u8]) -> usize {
@@ -76,6 +76,17 @@ pub fn up_to_63_tasks(right: &dyn Calls, _: &Past, record: &mut [u8], asked: Pla
         return Refusal::Full.number();
     }
     answer
+}
+
+/// A task that does not fit is placed with its second block moved down to the grid of the first.
+pub fn place_on_the_grid(right: &dyn Calls, _: &Past, record: &mut [u8], asked: Placing) -> i32 {
+    match (asked.on(right, record), on_the_grid(asked.task)) {
+        (-10, Some(task)) => {
+            let task = &task;
+            Placing { task, ..asked }.on(right, record)
+        }
+        (answer, _) => answer,
+    }
 }
 
 /// A block in a column without a cell is passed over.

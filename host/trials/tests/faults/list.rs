@@ -25,6 +25,7 @@ faults! {
     "place cuts the column to 8 bits": Place(column_cut);
     "place cuts the bottom to 16 bits": Place(bottom_cut);
     "a 64th task is refused": Place(up_to_63_tasks);
+    "place moves a second block to its grid": Place(place_on_the_grid);
     "place passes over a block in a column without a cell": Place(place_past_no_cells);
     "place moves at most 32 entries": Place(place_moves_32);
     "a number refused at one position runs at the next": Place(refused_number_runs);

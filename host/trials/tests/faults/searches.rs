@@ -177,7 +177,7 @@ pub fn split_range(right: &dyn Calls, record: &[u8], task: &[u8], output: &mut [
 
 /// The task with its second block on the grid of the first, where it stands in the same column and is
 /// not on it.
-fn on_the_grid(task: &[u8]) -> Option<Vec<u8>> {
+pub fn on_the_grid(task: &[u8]) -> Option<Vec<u8>> {
     let task = Task::from_bytes(task).ok()?;
     let (first, second) = match task.blocks() {
         [first, second] if second.column == 0 => (first, second),
