@@ -106,7 +106,7 @@ pub fn bytes_of(blocks: &[Block]) -> Vec<u8> {
 }
 
 /// Reads whole blocks; none where a kind byte is above 2.
-fn read_blocks(bytes: &[u8]) -> Option<Vec<Block>> {
+pub fn read_blocks(bytes: &[u8]) -> Option<Vec<Block>> {
     bytes
         .chunks_exact(BLOCK_SIZE)
         .map(|b| Block::from_bytes([b[0], b[1], b[2], b[3], b[4], b[5]]))

@@ -5,6 +5,7 @@ use std::fs;
 use std::path::{Path, PathBuf};
 
 use oracle::sheet::sheet;
+use sheets::compare;
 
 /// The folder of examples.
 fn folder() -> PathBuf {
@@ -21,10 +22,15 @@ fn names() -> Vec<String> {
         .collect()
 }
 
+/// The bytes of a file of the folder.
+fn bytes(name: &str, ending: &str) -> Vec<u8> {
+    let path = folder().join(format!("{name}.{ending}"));
+    fs::read(&path).unwrap_or_else(|error| panic!("{}: {error}", path.display()))
+}
+
 /// A text of the folder.
 fn text(name: &str, ending: &str) -> String {
-    let path = folder().join(format!("{name}.{ending}"));
-    fs::read_to_string(&path).unwrap_or_else(|error| panic!("{}: {error}", path.display()))
+    String::from_utf8(bytes(name, ending)).unwrap_or_else(|error| panic!("{name}: {error}"))
 }
 
 #[test]
@@ -32,16 +38,11 @@ fn every_sheet_prints_the_output_beside_it() {
     let names = names();
     assert_eq!(names.len(), 5, "{names:?}");
     for name in names {
-        let input = text(&name, "sheet");
-        let expected = text(&name, "out");
-        let printed = sheets::run(input.as_bytes()).expect("the program runs");
-        assert_eq!(String::from_utf8_lossy(&printed), expected, "{name}");
-        let printed = sheet(input.as_bytes());
-        assert_eq!(
-            String::from_utf8_lossy(&printed),
-            expected,
-            "{name}, oracle"
-        );
+        let input = bytes(&name, "sheet");
+        let expected = bytes(&name, "out");
+        let printed = sheets::run(&input).expect("the program runs");
+        compare(&name, &printed, &expected);
+        compare(&format!("{name}, oracle"), &sheet(&input), &expected);
     }
 }
 

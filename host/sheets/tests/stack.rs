@@ -1,11 +1,10 @@
 //! The stack of the sheet program: on the heaviest sheets it runs in the limit that the README states.
 
-use std::io::Write;
 use std::os::unix::process::ExitStatusExt;
-use std::process::{Child, Command, Output, Stdio};
-use std::thread;
+use std::process::{Command, Output};
 
 use oracle::sheet::sheet;
+use sheets::{compare, ended_well};
 
 /// What the program needs at most, in KiB; its frames take 439, and the rest is for the loader and for what
 /// the system puts above them.
@@ -17,29 +16,15 @@ const TOO_LITTLE: usize = 64;
 /// The signal that ends a program whose stack has run out.
 const SEGMENTATION_FAULT: i32 = 11;
 
-/// Starts the program with a stack of so many KiB.
-fn start(stack: usize) -> Child {
-    Command::new("sh")
+/// What the program does with a sheet on a stack of so many KiB.
+fn run(stack: usize, sheet: &[u8]) -> Output {
+    let mut command = Command::new("sh");
+    command
         .args(["-c", "ulimit -s \"$0\" && exec \"$1\""])
         .arg(stack.to_string())
         .arg(sheets::program())
-        .env_clear()
-        .stdin(Stdio::piped())
-        .stdout(Stdio::piped())
-        .spawn()
-        .expect("a shell runs")
-}
-
-/// What the program does with a sheet on a stack of so many KiB.
-fn run(stack: usize, sheet: &[u8]) -> Output {
-    let mut child = start(stack);
-    let mut input = child.stdin.take().expect("its input");
-    let bytes = sheet.to_vec();
-    // Writing beside reading: neither side waits for the other.
-    let writer = thread::spawn(move || drop(input.write_all(&bytes)));
-    let output = child.wait_with_output().expect("its output");
-    writer.join().expect("the sheet is handed over");
-    output
+        .env_clear();
+    sheets::feed(&mut command, sheet).expect("a shell runs")
 }
 
 /// The first three lines of a sheet with the greatest device, six columns of logic in each eight.
@@ -77,9 +62,8 @@ fn the_heaviest_sheets_run_in_it() {
     let faults = head() + &"x\n".repeat(16_000);
     let longer = "\n".repeat(40_000);
     for text in [combs, listings, faults, longer, String::new()] {
-        let run = run(STACK, text.as_bytes());
-        assert!(run.status.success(), "{}", run.status);
-        assert!(run.stdout == sheet(text.as_bytes()), "{:.100}", text);
+        let printed = ended_well(run(STACK, text.as_bytes())).expect("it runs");
+        compare(&format!("{text:.100}"), &printed, &sheet(text.as_bytes()));
     }
 }
 

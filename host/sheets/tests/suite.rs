@@ -7,6 +7,7 @@ use std::path::{Path, PathBuf};
 use oracle::arbitrary::sheet_bytes;
 use oracle::rng::Rng;
 use oracle::sheet::sheet;
+use sheets::compare;
 
 /// The sheets of the folder, in the order of their names.
 fn cases() -> Vec<PathBuf> {
@@ -23,16 +24,6 @@ fn cases() -> Vec<PathBuf> {
 /// What the program prints.
 fn printed(input: &[u8]) -> Vec<u8> {
     sheets::run(input).expect("the program runs")
-}
-
-/// Says where two outputs part.
-fn compare(name: &str, found: &[u8], expected: &[u8]) {
-    let found = String::from_utf8_lossy(found);
-    let expected = String::from_utf8_lossy(expected);
-    for (index, (a, b)) in found.lines().zip(expected.lines()).enumerate() {
-        assert_eq!(a, b, "{name}: output line {}", index + 1);
-    }
-    assert_eq!(found.len(), expected.len(), "{name}: the length");
 }
 
 #[test]

@@ -7,6 +7,7 @@ use oracle::history::{Call, Outcome};
 use oracle::layout::*;
 use oracle::listing::LIST_ROOM;
 use oracle::rng::Rng;
+use oracle::task::BLOCK_SIZE;
 use oracle::{sound, Book, Refusal};
 
 use crate::pair::{run, Pair};
@@ -83,13 +84,18 @@ fn refuses(subject: &dyn Calls, bytes: &[u8], calls: &[Call], number: i32) -> Tr
     })
 }
 
-/// Changes every byte of a book's record in turn.
-pub fn every_byte(subject: &dyn Calls, seed: u64, book: &Book) -> Trial<Tally> {
+/// Changes bytes of a book's record in turn: one in so many of the intervals and entries, and every
+/// one of what stands before them and of the last ones.
+pub fn every_byte(subject: &dyn Calls, seed: u64, book: &Book, one_in: usize) -> Trial<Tally> {
     let mut rng = Rng::new(seed);
     let calls = one_of_each(&mut rng, book);
     let mut record = oracle::record::record_of(book);
     let mut tally = Tally::default();
-    for at in 0..RECORD_SIZE {
+    let is_changed = |at: &usize| {
+        let middle = INTERVALS_AT..RECORD_SIZE - BLOCK_SIZE;
+        at.is_multiple_of(one_in) || !middle.contains(at)
+    };
+    for at in (0..RECORD_SIZE).filter(is_changed) {
         let old = record[at];
         record[at] = match rng.below(3) {
             0 => old ^ (1 << rng.below(8)),
@@ -125,15 +131,24 @@ pub fn likely(subject: &dyn Calls, seed: u64, books: usize, each: usize) -> Tria
 pub fn mixed_up(subject: &dyn Calls, seed: u64, count: usize) -> Trial<Tally> {
     let mut rng = Rng::new(seed);
     let mut tally = Tally::default();
+    let borders = [
+        0,
+        KINDS_AT,
+        COUNTS_AT,
+        INTERVALS_AT,
+        ENTRIES_AT,
+        RECORD_SIZE,
+    ];
     for _ in 0..count {
-        let book = arbitrary::book(&mut rng, 20);
+        // Cards with few tasks are often like each other, so that a part of one may do for another.
+        let most_calls = rng.pick(&[0, 1, 20]);
+        let book = arbitrary::book(&mut rng, most_calls);
         let mut record = oracle::record::record_of(&book);
         let other = oracle::record::record_of(&arbitrary::book(&mut rng, 20));
-        let start = rng.pick(&[0, KINDS_AT, COUNTS_AT, INTERVALS_AT, ENTRIES_AT]);
-        let end = rng.pick(&[KINDS_AT, COUNTS_AT, INTERVALS_AT, ENTRIES_AT, RECORD_SIZE]);
-        if start < end {
-            record[start..end].copy_from_slice(&other[start..end]);
-        }
+        let first = rng.below(borders.len() - 1);
+        let start = borders[first];
+        let end = rng.pick(&borders[first + 1..]);
+        record[start..end].copy_from_slice(&other[start..end]);
         let calls = one_of_each(&mut rng, &book);
         tally.add(judge(subject, &record, &calls)?);
     }

@@ -7,9 +7,11 @@ use oracle::arbitrary::{self, Mood};
 use oracle::calls as wanted;
 use oracle::layout::RECORD_SIZE;
 use oracle::rng::Rng;
-use oracle::Device;
+use oracle::task::bytes_of;
+use oracle::{Device, Position};
 
 use crate::pair::{first_difference, Pair};
+use crate::shapes::{block, place_call, unused_number};
 use crate::{ensure, Mismatch, Trial};
 
 /// How often each answer came; all counts and positions are one.
@@ -53,7 +55,12 @@ pub fn run(
     mood: Mood,
     calls: usize,
 ) -> Trial<Answers> {
-    let mut pair = Pair::new(subject, device)?;
+    let pair = Pair::new(subject, device)?;
+    go_on(pair, rng, mood, calls)
+}
+
+/// Goes on with a history by so many random calls.
+fn go_on(mut pair: Pair, rng: &mut Rng, mood: Mood, calls: usize) -> Trial<Answers> {
     let mut answers = Answers::new();
     for index in 0..calls {
         let call = arbitrary::call(rng, pair.book(), mood);
@@ -101,6 +108,8 @@ pub fn long_on_small(subject: &dyn Calls, seed: u64, calls: usize) -> Trial<Answ
 }
 
 /// One long history on the largest card, with so many blocks in a task at most.
+///
+/// It begins with 50 tasks of one cell, so that all of it has many tasks running.
 pub fn long_on_largest(
     subject: &dyn Calls,
     seed: u64,
@@ -108,14 +117,32 @@ pub fn long_on_largest(
     blocks: usize,
 ) -> Trial<Answers> {
     let mut rng = Rng::new(seed);
-    let device = largest_device(&mut rng);
+    let mut pair = Pair::new(subject, largest_device(&mut rng))?;
+    while pair.book().running().len() < 50 {
+        place_a_cell(&mut pair, &mut rng)?;
+    }
     let mood = Mood {
         place: 65,
         ask: 10,
         odd: 5,
         blocks,
     };
-    run(subject, &mut rng, device, mood, calls)
+    go_on(pair, &mut rng, mood, calls)
+}
+
+/// Places a task of one cell somewhere, or is refused because the cell is held.
+fn place_a_cell(pair: &mut Pair, rng: &mut Rng) -> Trial<i32> {
+    let device = pair.book().device();
+    let column = rng.below(device.columns());
+    let kind = device.kinds()[column];
+    let cell = rng.below(device.cells(column));
+    let at = Position {
+        column: column as u32,
+        bottom: (cell as i64 * kind.height()) as i32,
+    };
+    let task = bytes_of(&[block(0, kind, 0, 1)]);
+    let number = unused_number(pair.book());
+    pair.call(&place_call(&task, number, at))
 }
 
 /// New with arguments within and without the limits, on records of all lengths.

@@ -2,23 +2,29 @@
 //!
 //! Everything is written over [`calls::Calls`] and answers a [`Mismatch`] where
 //! an answer, an output or a record differs in any byte, so that wrong
-//! implementations can be tried too and must be found out (`tests/faults.rs`).
+//! implementations can be tried too and must be found out (`tests/faults`).
 //!
 //! Where to find what:
+//! - [`suite`]: all trials in one list, each in a short and in a full size;
 //! - [`pair`]: a record and the oracle's book side by side, call by call;
 //! - [`histories`]: random histories, short and long, on small and large cards;
 //! - [`shapes`]: shapes with a 2-step and a 5-step, releases between free stretches, no position;
 //! - [`damage`]: damaged records, wrong lengths, random bytes;
-//! - [`small`]: small cards exhaustively.
+//! - [`flaws`]: records in which one sentence alone does not hold;
+//! - [`small`]: small cards exhaustively;
+//! - [`limits`]: cards, tasks and arguments at the limits.
 
 #![deny(missing_docs)]
 #![forbid(unsafe_code)]
 
 pub mod damage;
+pub mod flaws;
 pub mod histories;
+pub mod limits;
 pub mod pair;
 pub mod shapes;
 pub mod small;
+pub mod suite;
 
 use std::fmt;
 

@@ -13,9 +13,14 @@ use crate::histories::{any_device, small_device};
 use crate::pair::Pair;
 use crate::Trial;
 
-/// The height of the kind, as the blocks' numbers have it.
-fn height(kind: Kind) -> i16 {
-    kind.height() as i16
+/// A block of so many cells.
+pub fn block(column: u8, kind: Kind, bottom: i16, cells: i16) -> Block {
+    Block {
+        column,
+        kind,
+        bottom,
+        top: bottom + cells * kind.height() as i16,
+    }
 }
 
 /// A list call with room enough.
@@ -34,9 +39,8 @@ pub fn choose_call(task: &[u8]) -> Call {
     }
 }
 
-/// A place call at the position that choose answered.
-fn place_call(task: &[u8], number: u32, chosen: i32) -> Call {
-    let at = Position::of_answer(chosen);
+/// A place call.
+pub fn place_call(task: &[u8], number: u32, at: Position) -> Call {
     Call::Place {
         task: task.to_vec(),
         number,
@@ -46,7 +50,7 @@ fn place_call(task: &[u8], number: u32, chosen: i32) -> Call {
 }
 
 /// The lowest number that is not running.
-fn unused_number(book: &Book) -> u32 {
+pub fn unused_number(book: &Book) -> u32 {
     let is_unused = |number: &u16| !book.running().contains_key(number);
     u32::from((1..).find(is_unused).expect("at most 64 are running"))
 }
@@ -66,21 +70,24 @@ pub fn used_card(rng: &mut Rng, device: Device, most_calls: usize) -> Book {
     book
 }
 
-/// Two blocks in neighbouring columns, of different heights, the second at every offset.
+/// Blocks of two heights in neighbouring columns, the second at every offset: two of them in several
+/// sizes, and three of them.
 pub fn mixed_tasks(first: Kind, second: Kind) -> Vec<Vec<u8>> {
-    let block = |column, kind, bottom, cells| Block {
-        column,
-        kind,
-        bottom,
-        top: bottom + cells * height(kind),
+    let two = |offset, lower, upper| {
+        let blocks = [block(0, first, 0, lower), block(1, second, offset, upper)];
+        blocks.to_vec()
     };
-    (-13..=13)
-        .flat_map(|offset| [(1, 1), (3, 1), (1, 2)].map(|cells| (offset, cells)))
-        .map(|(offset, (lower, upper))| {
-            let blocks = [block(0, first, 0, lower), block(1, second, offset, upper)];
-            bytes_of(&blocks)
-        })
-        .collect()
+    let with_third = |offset| {
+        // On the grid of the first, or the three would fit nowhere.
+        let third = block(2, first, 2 * first.height() as i16, 1);
+        [two(offset, 1, 1), vec![third]].concat()
+    };
+    let shapes = |offset| {
+        let twos = [(1, 1), (3, 1), (1, 2)].map(|(lower, upper)| two(offset, lower, upper));
+        twos.into_iter().chain([with_third(offset)])
+    };
+    let tasks = (-13..=13).flat_map(shapes);
+    tasks.map(|blocks| bytes_of(&blocks)).collect()
 }
 
 /// Lists, chooses, places and releases shapes of two steps on cards with held cells.
@@ -109,7 +116,7 @@ pub fn mixed_steps(subject: &dyn Calls, seed: u64, cards: usize) -> Trial<usize>
 }
 
 /// Lists and chooses a task, then places it where choose says and takes it out again.
-fn comes_and_goes(pair: &Pair, task: &[u8]) -> Trial<bool> {
+pub fn comes_and_goes(pair: &Pair, task: &[u8]) -> Trial<bool> {
     let mut pair = pair.clone();
     let listed = pair.call(&list_call(task))?;
     let chosen = pair.call(&choose_call(task))?;
@@ -117,7 +124,7 @@ fn comes_and_goes(pair: &Pair, task: &[u8]) -> Trial<bool> {
         return Ok(false);
     }
     let number = unused_number(pair.book());
-    pair.call(&place_call(task, number, chosen))?;
+    pair.call(&place_call(task, number, Position::of_answer(chosen)))?;
     pair.call(&list_call(task))?;
     pair.call(&Call::Release { number })?;
     pair.call(&list_call(task))?;
@@ -166,21 +173,15 @@ fn three_in_a_row(
     bottom: i32,
     order: [usize; 3],
 ) -> Trial<usize> {
-    let task = bytes_of(&[Block {
-        column: 0,
-        kind,
-        bottom: 0,
-        top: height(kind),
-    }]);
+    let task = bytes_of(&[block(0, kind, 0, 1)]);
     let mut numbers = [0; 3];
     for (index, number) in numbers.iter_mut().enumerate() {
         *number = unused_number(pair.book());
-        pair.call(&Call::Place {
-            task: task.clone(),
-            number: *number,
+        let at = Position {
             column: column as u32,
             bottom: bottom + index as i32 * kind.height() as i32,
-        })?;
+        };
+        pair.call(&place_call(&task, *number, at))?;
     }
     let mut joined = 0;
     for index in order {
@@ -224,16 +225,11 @@ fn fill_more(rng: &mut Rng, pair: &mut Pair) -> Trial<bool> {
     let kind = rng.pick(&kinds);
     // Tried from the largest down, so that a card without a place for the last is full in this kind.
     for cells in [3, 2, 1] {
-        let task = bytes_of(&[Block {
-            column: 0,
-            kind,
-            bottom: 0,
-            top: cells * height(kind),
-        }]);
+        let task = bytes_of(&[block(0, kind, 0, cells)]);
         let chosen = pair.call(&choose_call(&task))?;
         if chosen >= 0 {
             let number = unused_number(pair.book());
-            return Ok(pair.call(&place_call(&task, number, chosen))? == 0);
+            return Ok(pair.call(&place_call(&task, number, Position::of_answer(chosen)))? == 0);
         }
     }
     // Another kind may still have room.

@@ -5,10 +5,10 @@ use std::collections::HashSet;
 use calls::Calls;
 use oracle::history::Call;
 use oracle::task::{bytes_of, Block, Task};
-use oracle::{Book, Device, Kind};
+use oracle::{Book, Device, Kind, Position};
 
 use crate::pair::Pair;
-use crate::shapes::{choose_call, list_call};
+use crate::shapes::{choose_call, list_call, place_call};
 use crate::Trial;
 
 /// Cards to try exhaustively: devices, and the tasks to try on each of them.
@@ -22,10 +22,13 @@ pub struct Cards {
 impl Cards {
     /// Every device of up to so many rows and columns, and every task within a reach.
     pub fn up_to(rows: u32, columns: u32, reach: i16) -> Cards {
-        Cards {
-            devices: devices(rows, columns),
-            tasks: tasks(reach),
-        }
+        Cards::on(devices(rows, columns), reach)
+    }
+
+    /// These devices, and every task within a reach.
+    pub fn on(devices: Vec<Device>, reach: i16) -> Cards {
+        let tasks = tasks(reach);
+        Cards { devices, tasks }
     }
 }
 
@@ -73,11 +76,13 @@ fn tasks(reach: i16) -> Vec<Vec<u8>> {
 }
 
 /// Every position on a device and one step around it.
-fn positions(device: &Device) -> Vec<(u32, i32)> {
-    let columns = 0..=device.columns() as u32;
-    columns
-        .flat_map(|column| (-1..=device.half_rows() as i32).map(move |bottom| (column, bottom)))
-        .collect()
+fn positions(device: &Device) -> Vec<Position> {
+    let bottoms = -1..=device.half_rows() as i32;
+    let in_column = |column| {
+        let bottoms = bottoms.clone();
+        bottoms.map(move |bottom| Position { column, bottom })
+    };
+    (0..=device.columns() as u32).flat_map(in_column).collect()
 }
 
 /// Lists and chooses every task on every device, empty; answers how many had a position.
@@ -98,16 +103,10 @@ pub fn placements(subject: &dyn Calls, cards: &Cards) -> Trial<usize> {
     let mut fitting = 0;
     for device in &cards.devices {
         let mut pair = Pair::new(subject, device.clone())?;
-        for (column, bottom) in positions(device) {
+        for at in positions(device) {
             for task in &cards.tasks {
                 let number = 7;
-                let placed = pair.call(&Call::Place {
-                    task: task.clone(),
-                    number,
-                    column,
-                    bottom,
-                })?;
-                if placed == 0 {
+                if pair.call(&place_call(task, number, at))? == 0 {
                     fitting += 1;
                     pair.call(&Call::Release { number })?;
                 }
@@ -124,14 +123,8 @@ pub fn alphabet(device: &Device, tasks: &[Vec<u8>], numbers: &[u32]) -> Vec<Call
         calls.push(list_call(task));
         calls.push(choose_call(task));
         for &number in numbers {
-            for (column, bottom) in positions(device) {
-                calls.push(Call::Place {
-                    task: task.clone(),
-                    number,
-                    column,
-                    bottom,
-                });
-            }
+            let places = positions(device).into_iter();
+            calls.extend(places.map(|at| place_call(task, number, at)));
         }
     }
     let others = [0, 65_536 + numbers[0]];
