@@ -38,10 +38,6 @@ left-in input s = lines (drop (s .stand .at) input)
 abbrev pub yet : List ℕ → State → List ℕ
 yet input s = cond (s .stand .more) (on-lines (s .stand .number) (desk-in s) (left-in input s)) []
 
--- the stand at the line that starts at `at`, if one does
-abbrev pub stand-at : List ℕ → ℕ → ℕ → ℕ → ℕ → Stand
-stand-at input at number used printed = record { printed = printed; more = ltb at (length input); at = at; number = number; used = used }
-
 -- the stand at the end
 abbrev pub ended : ℕ → Stand
 ended printed = record { printed = printed; more = false; at = 0; number = 0; used = 0 }

@@ -12,7 +12,7 @@ pub mod Sound
 pub mod Calls
 pub mod OnRecord
 pub mod History
-pub mod Demand3
+pub mod Claim
 pub mod Sheet
 pub mod Program
 -- computed from them

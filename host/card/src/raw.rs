@@ -1,10 +1,10 @@
 //! The functions of the static archive, as the Rattle source declares them: unsafe, for callers that hold pointers.
 //!
 //! A byte slice passes as a pointer and then a length. A caller keeps that
-//! each pointer is not null and valid for its length, for writing where it is
-//! `*mut`, and that a `*mut` part overlaps no other part. Everything else is
-//! promised: any bytes, lengths and numbers get the model's answer. No
-//! pointer is kept. [`bytes`](crate::bytes) has the same functions on slices.
+//! each pointer is valid for its length, for writing where it is `*mut` (with
+//! length 0 it may be any, null too), and that a `*mut` part overlaps no other
+//! part. Everything else is promised: any bytes, lengths and numbers get the
+//! model's answer. No pointer is kept. [`bytes`](crate::bytes) has the same functions on slices.
 //!
 //! Nothing checks these declarations against the source, so they stand in this
 //! one file, in the order of the source, and `trials` compares every function

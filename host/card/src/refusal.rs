@@ -41,7 +41,7 @@ pub enum Refusal {
     Misfit = -10,
     /// Release: the number is not running.
     NotRunning = -11,
-    /// Line reader: the line is malformed.
+    /// Line reader: the line is malformed. It is there because the table is one; no call of this crate gives it.
     MalformedLine = -12,
 }
 

@@ -1,6 +1,6 @@
 //! The book of a history: the device and the running tasks, and the calls on it.
 //!
-//! It never reads a record: everything is reckoned from the tasks in the book.
+//! No record is looked at here: all follows from the device and these tasks.
 
 use std::collections::BTreeMap;
 
@@ -66,7 +66,7 @@ impl Book {
             .unwrap_or_default()
     }
 
-    /// The cells that no running task holds.
+    /// The free cells.
     pub fn free_cells(&self) -> CellSet {
         let mut free = CellSet::all_of(&self.device);
         for &number in self.running.keys() {
@@ -92,8 +92,8 @@ impl Book {
         ranges(&self.device, &self.free_cells(), task)
     }
 
-    /// Place: adds the task under its number at its position, or refuses
-    /// with −4, −5, −7, −8 or −10.
+    /// Place: enters a task in the book, or refuses with −4, −5, −7, −8
+    /// or −10.
     pub fn place(
         &mut self,
         task: &[u8],
@@ -114,7 +114,7 @@ impl Book {
         Ok(())
     }
 
-    /// Release: takes out the task of the number, or refuses with −11.
+    /// Release: strikes a task out of the book, or refuses with −11.
     pub fn release(&mut self, number: u32) -> Result<(), Refusal> {
         let number = u16::try_from(number).map_err(|_| Refusal::NotRunning)?;
         match self.running.remove(&number) {
@@ -123,8 +123,8 @@ impl Book {
         }
     }
 
-    /// List: writes the task's ranges and answers their number, or refuses
-    /// with −4, −5, −6 or −9. Bytes after the ranges stay.
+    /// List: puts the ranges at the front of the output, leaves the rest of it,
+    /// and answers how many they are; or refuses with −4, −5, −6 or −9.
     pub fn list(&self, task: &[u8], output: &mut [u8]) -> Result<usize, Refusal> {
         let task = Task::from_bytes(task)?;
         if output.len() < LIST_ROOM {
@@ -140,7 +140,7 @@ impl Book {
         Ok(ranges.len())
     }
 
-    /// Choose: the position with least n / s, or refuses with −4, −5 or −9.
+    /// Choose: the best position, or a refusal: −4, −5 or −9.
     pub fn choose(&self, task: &[u8]) -> Result<Position, Refusal> {
         let task = Task::from_bytes(task)?;
         choice::chosen(&self.device, &self.free_cells(), &task).ok_or(Refusal::NoPosition)

@@ -19,7 +19,7 @@ pub fn book_of(record: &[u8]) -> Result<Book, Refusal> {
     sound::read(record).map_err(Refusal::from)
 }
 
-/// New: writes the record with all cells free. Answers 0, −1 or −3.
+/// New: makes the record of a device on which nothing runs. Answers 0, −1 or −3.
 pub fn new(record: &mut [u8], rows: u32, kinds: &[u8]) -> i32 {
     if record.len() != RECORD_SIZE {
         return Refusal::RecordLength.number();
@@ -28,7 +28,7 @@ pub fn new(record: &mut [u8], rows: u32, kinds: &[u8]) -> i32 {
     answer(made.map(|book| write(&book, record)))
 }
 
-/// Place: enters the task as running. Answers 0, −1, −2, −4, −5, −7, −8 or −10.
+/// Place: puts a task into the record. Answers 0, −1, −2, −4, −5, −7, −8 or −10.
 pub fn place(record: &mut [u8], task: &[u8], number: u32, column: u32, bottom: i32) -> i32 {
     let placed = book_of(record).and_then(|mut book| {
         book.place(task, number, column, bottom)?;
@@ -37,7 +37,7 @@ pub fn place(record: &mut [u8], task: &[u8], number: u32, column: u32, bottom: i
     answer(placed.map(|book| write(&book, record)))
 }
 
-/// Release: frees the task's cells and removes its entry. Answers 0, −1, −2 or −11.
+/// Release: takes a task out of the record. Answers 0, −1, −2 or −11.
 pub fn release(record: &mut [u8], number: u32) -> i32 {
     let released = book_of(record).and_then(|mut book| {
         book.release(number)?;
@@ -46,7 +46,7 @@ pub fn release(record: &mut [u8], number: u32) -> i32 {
     answer(released.map(|book| write(&book, record)))
 }
 
-/// List: writes the ranges and answers their number, or −1, −2, −4, −5, −6 or −9.
+/// List: writes the ranges. Answers how many, or −1, −2, −4, −5, −6 or −9.
 pub fn list(record: &[u8], task: &[u8], output: &mut [u8]) -> i32 {
     let listed = book_of(record).and_then(|book| book.list(task, output));
     answer(listed.map(|count| count as i32))
@@ -63,7 +63,7 @@ pub fn interval_count(record: &[u8], column: u32) -> i32 {
     answer(count(record, column).map(|count| count as i32))
 }
 
-/// The view: a column's intervals as a part of the record, empty where interval count refuses.
+/// The view: the bytes of a column's intervals, in their place in the record; none where interval count refuses.
 pub fn view(record: &[u8], column: u32) -> &[u8] {
     match count(record, column) {
         Ok(count) => &record[column_part(column as usize)][..INTERVAL_SIZE * count],

@@ -1,4 +1,4 @@
-//! Sets of cells, and the intervals: maximal runs of free cells in one column.
+//! Sets of cells, and the intervals that the free cells of a column form.
 
 use crate::device::{Device, MAX_COLUMNS};
 
@@ -70,7 +70,7 @@ impl CellSet {
     }
 }
 
-/// A run of half rows in one column, top excluded.
+/// The half rows of a column from a bottom on and below a top.
 #[derive(Clone, Copy, Debug, PartialEq, Eq, Hash)]
 pub struct Interval {
     /// The lowest half row.
@@ -98,7 +98,7 @@ impl Interval {
     }
 }
 
-/// The maximal runs of free cells in one column, upwards, in half rows.
+/// The intervals of a column, from the lowest up: free cells as far as they go on without a gap.
 pub fn intervals(device: &Device, free: &CellSet, column: usize) -> Vec<Interval> {
     let height = device.kind(column).map_or(0, |kind| kind.height());
     let cells = device.cells(column);

@@ -1,4 +1,4 @@
-//! The choice: of all fitting positions, the one with least n / s.
+//! The choice: the fitting position whose n / s is least.
 
 use crate::cells::{intervals, CellSet, Interval};
 use crate::device::Device;
@@ -8,9 +8,9 @@ use crate::task::Task;
 /// What a position costs: n over s, here pieces over stretch.
 #[derive(Clone, Copy, Debug, PartialEq, Eq, Hash)]
 pub struct Score {
-    /// n: the free intervals that remain, after placing, inside intervals that held a block.
+    /// n: how many intervals are left of those into which a block is put.
     pub pieces: i64,
-    /// s: the sum, over the blocks, of the height of the free interval that holds the block.
+    /// s: block by block, the height of the interval into which it is put, added up.
     pub stretch: i64,
 }
 

@@ -53,8 +53,8 @@ pub fn moved_column(device: &Device, block: &Block, at: Position) -> Option<usiz
 
 /// The cells of a moved block, as its column and the run of cells in it.
 ///
-/// None unless the block stands in a device column of its kind, starts at a
-/// multiple of its height, not below 0, and ends at or below the last cell's top.
+/// None unless the device has the column, with the block's kind, and the block begins
+/// where a cell does and ends no higher than the last one.
 pub fn block_cells(device: &Device, block: &Block, at: Position) -> Option<(usize, Range<usize>)> {
     let column = moved_column(device, block, at)?;
     if device.kind(column) != Some(block.kind) {
@@ -70,7 +70,7 @@ pub fn block_cells(device: &Device, block: &Block, at: Position) -> Option<(usiz
     Some((column, cells))
 }
 
-/// All cells that a task covers at a position, or none if it would not fit on the empty device.
+/// All cells that a task covers at a position, or none if it does not fit there even by itself.
 pub fn cells_of(device: &Device, task: &Task, at: Position) -> Option<Vec<(usize, usize)>> {
     let mut all = Vec::new();
     for block in task.blocks() {

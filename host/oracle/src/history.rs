@@ -1,5 +1,5 @@
-//! Histories: lists of list, choose, place and release calls, run on a record
-//! or on the book alone, so that the two can be compared.
+//! Histories: calls made one after the other, on a record or on the book alone,
+//! so that the two can be compared.
 
 use crate::book::Book;
 use crate::calls::{self, answer};

@@ -36,7 +36,7 @@ pub const ENTRY_COLUMN_AT: usize = 2;
 pub const ENTRY_COUNT_AT: usize = 3;
 /// In an entry: bottom, two bytes.
 pub const ENTRY_BOTTOM_AT: usize = 4;
-/// In an entry: the blocks, from its seventh byte on.
+/// In an entry: the blocks, behind all the rest.
 pub const BLOCKS_AT: usize = 6;
 
 /// The bytes of a column's intervals.

@@ -1,8 +1,9 @@
 //! A reference implementation ("oracle") of document 01, cell by cell.
 //!
-//! It is written from the document's sentences alone and searches by trying
-//! everything: every position, every cell. The proved library is compared with
-//! it, so where the two differ one of them has misread the document.
+//! It is written from that document alone, without a look at the definitions of
+//! the proved library, and searches by trying everything: every position, every
+//! cell. The library is compared with it, so where the two differ one of them has
+//! misread the document. `docs/MODEL.md` states the same in numbered clauses.
 //!
 //! Where to find what:
 //! - [`device`], [`task`]: the device with its cells, and tasks with their blocks;

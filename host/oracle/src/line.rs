@@ -25,15 +25,15 @@ pub struct DeviceLine {
 /// One of the six calls of a sheet.
 #[derive(Clone, Copy, Debug, PartialEq, Eq)]
 pub enum SheetCall {
-    /// B: adds a block to the draft.
+    /// B: one block more in the draft.
     AddBlock(Block),
-    /// N: empties the draft.
+    /// N: the draft starts anew.
     EmptyDraft,
-    /// L: lists the draft.
+    /// L: where the draft fits.
     ListDraft,
-    /// C: chooses a position for the draft.
+    /// C: the best position for the draft.
     ChooseDraft,
-    /// P: places the draft.
+    /// P: the draft runs from now on.
     PlaceDraft {
         /// The task number, 0 to 65,535.
         task: u16,
@@ -42,7 +42,7 @@ pub enum SheetCall {
         /// The bottom.
         bottom: i16,
     },
-    /// R: releases a task.
+    /// R: a task ends.
     ReleaseTask {
         /// The task number, 0 to 65,535.
         task: u16,
@@ -139,7 +139,7 @@ pub fn sheet_line(line: &[u8]) -> Result<SheetCall, Refusal> {
     }
 }
 
-/// The fields of a line that is not too long, parted by one space.
+/// The fields of a line that is not too long: what stands between its spaces.
 fn fields(line: &[u8]) -> Result<Vec<&[u8]>, Refusal> {
     if line.len() > MAX_LINE {
         return Err(Refusal::MalformedLine);
@@ -155,7 +155,7 @@ fn kind(field: &[u8]) -> Result<Kind, Refusal> {
     }
 }
 
-/// A decimal number, without plus sign, leading zero or "-0", in its field's range.
+/// A decimal number in its field's range, in the one way in which it may be written.
 ///
 /// The field's range is that of the type that is asked for.
 fn number<N: TryFrom<i64>>(field: &[u8]) -> Result<N, Refusal> {

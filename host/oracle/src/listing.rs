@@ -1,4 +1,4 @@
-//! The ranges of a task: maximal runs of fitting bottoms, one step apart.
+//! The ranges of a task: fitting bottoms that follow each other by a step, as many in one as can be.
 
 use crate::cells::CellSet;
 use crate::device::Device;
@@ -10,7 +10,7 @@ pub const RANGE_SIZE: usize = 6;
 /// The least output that list takes.
 pub const LIST_ROOM: usize = 24_576;
 
-/// A range: the positions in its column from first to last, one step apart.
+/// A range: a column, and the bottoms from a first to a last one in equal steps.
 #[derive(Clone, Copy, Debug, PartialEq, Eq, Hash)]
 pub struct Range {
     /// The column of the positions.

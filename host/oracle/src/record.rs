@@ -1,5 +1,5 @@
-//! The book's record: the device, the tasks by rising number, the free
-//! intervals, and 0 elsewhere.
+//! The record of a book: its device, its tasks and the intervals between them,
+//! each in its place, and zeros.
 
 use crate::book::{Book, Running};
 use crate::cells::intervals;

@@ -1,34 +1,34 @@
-//! The refusals of document 01's table, one case for each row of the table.
+//! The refusals, a case for each row of document 01's table (MODEL 13.1).
 
 use std::fmt;
 
-/// A refusal; its discriminant is the number that the table returns for it.
+/// A refusal; its discriminant is its number in the table.
 #[derive(Clone, Copy, Debug, PartialEq, Eq, Hash)]
 #[repr(i32)]
 pub enum Refusal {
-    /// The record is not 29,188 bytes.
+    /// The record has another length.
     RecordLength = -1,
-    /// The record is not sound.
+    /// The record has the right length and is not sound.
     RecordNotSound = -2,
-    /// New: rows, kind count or a kind is out of its limits. Interval count: no such column.
+    /// New: this is no device. Interval count: the device has no column of that number.
     DeviceOrColumn = -3,
-    /// The task bytes are 0, over 192, or no multiple of 6.
+    /// The bytes are not those of 1 to 32 blocks.
     TaskLength = -4,
-    /// The task is not well-formed.
+    /// The blocks are no well-formed task.
     TaskNotWellFormed = -5,
-    /// List: the output is under 24,576 bytes.
+    /// List: the output is too short.
     OutputShort = -6,
-    /// Place: the number is 0, over 65,535 or running.
+    /// Place: the number can't be a task's, or is another task's.
     BadNumber = -7,
-    /// Place: 64 tasks run.
+    /// Place: no further task may run.
     Full = -8,
-    /// List and choose: no position fits.
+    /// List and choose: the task fits nowhere.
     NoPosition = -9,
-    /// Place: the task does not fit there.
+    /// Place: the task does not fit at this position.
     Misfit = -10,
-    /// Release: the number is not running.
+    /// Release: no task has the number.
     NotRunning = -11,
-    /// Line reader: the line is malformed.
+    /// Line reader: the line is of no form that it reads.
     MalformedLine = -12,
 }
 
@@ -49,7 +49,7 @@ impl Refusal {
         Refusal::MalformedLine,
     ];
 
-    /// The number that the table returns.
+    /// Its number in the table.
     pub fn number(self) -> i32 {
         self as i32
     }

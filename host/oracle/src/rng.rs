@@ -22,7 +22,7 @@ impl Rng {
         z ^ (z >> 31)
     }
 
-    /// A number from 0 up to but not including the limit; 0 for the limit 0.
+    /// A number below the limit; 0 for the limit 0.
     pub fn below(&mut self, limit: usize) -> usize {
         // The small unevenness of the remainder does no harm here.
         (self.next_u64() % (limit.max(1) as u64)) as usize

@@ -113,7 +113,7 @@ impl Desk<'_> {
         }
     }
 
-    /// Adds a block to the draft, whatever the block is; a 33rd is not added.
+    /// Adds a block to the draft, whatever the block is, unless the draft is full.
     fn add_block(&mut self, line: usize, block: Block) {
         if self.draft.len() >= MAX_BLOCKS * BLOCK_SIZE {
             self.printed.answer(line, Refusal::TaskLength.number());

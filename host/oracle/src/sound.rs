@@ -1,8 +1,8 @@
-//! Whether bytes are a sound record, judged sentence by sentence, and the book
-//! that a sound record stands for.
+//! Whether bytes are a sound record, judged rule by rule (MODEL 9.2 to 9.8), and
+//! the book that a sound record stands for.
 //!
-//! Nothing here writes a record and compares: the regions are read, and each
-//! sentence of document 01 is checked on what was read.
+//! Nothing here writes a record and compares: the parts are read, and each rule
+//! is checked on what was read.
 
 use std::collections::BTreeMap;
 use std::fmt;
@@ -16,36 +16,36 @@ use crate::layout::*;
 use crate::refusal::Refusal;
 use crate::task::{Task, BLOCK_SIZE, MAX_BLOCKS};
 
-/// The first sentence found that does not hold of a record.
+/// The first rule found that a record breaks.
 #[derive(Clone, Copy, Debug, PartialEq, Eq, Hash)]
 pub enum Unsound {
-    /// It is not 29,188 bytes.
+    /// It has another length.
     Length,
-    /// Rows are not 1 to 128.
+    /// No device has so many rows, or so few.
     Rows,
-    /// Columns are not 1 to 64.
+    /// No device has so many columns, or so few.
     Columns,
-    /// A column's kind is above 2.
+    /// A column's kind is no kind.
     Kind,
-    /// Over 64 running tasks.
+    /// More tasks run than may.
     RunningCount,
-    /// A column has over 64 intervals.
+    /// A column has more intervals than places for them.
     IntervalCount,
-    /// A running task has not 1 to 32 blocks.
+    /// A running task has no blocks, or too many.
     BlockCount,
     /// A running number is 0.
     NumberZero,
-    /// Running numbers do not rise strictly.
+    /// A running number is not above the one before it.
     NumbersRise,
     /// A running task is not well-formed.
     NotWellFormed,
-    /// A running task would not fit at its position on the empty device.
+    /// A running task does not fit where it stands, even by itself.
     Misfit,
-    /// Two running tasks share a cell.
+    /// A cell has two holders.
     SharedCell,
-    /// The intervals are not exactly the maximal free runs, listed upwards.
+    /// A column's intervals are not those of its free cells, or not in their order.
     Intervals,
-    /// An unused byte is not 0.
+    /// A byte that stands for nothing is not 0.
     Unused,
 }
 
@@ -88,7 +88,7 @@ pub fn is_sound(record: &[u8]) -> bool {
     read(record).is_ok()
 }
 
-/// Rows, columns and kinds in their limits.
+/// The device, if rows, columns and kinds are a device's.
 fn read_device(record: &[u8]) -> Result<Device, Unsound> {
     let rows = u32::from(word(record, ROWS_AT));
     if !(1..=MAX_ROWS).contains(&rows) {
@@ -101,7 +101,7 @@ fn read_device(record: &[u8]) -> Result<Device, Unsound> {
     Device::new(rows, &record[KINDS_AT..KINDS_AT + columns]).map_err(|_| Unsound::Kind)
 }
 
-/// Counts of running tasks and of intervals in their limits.
+/// That there are places for so many running tasks and intervals.
 fn check_counts(record: &[u8]) -> Result<(), Unsound> {
     if usize::from(record[RUNNING_AT]) > MAX_RUNNING {
         return Err(Unsound::RunningCount);
@@ -113,7 +113,7 @@ fn check_counts(record: &[u8]) -> Result<(), Unsound> {
     Ok(())
 }
 
-/// The running tasks: numbers from 1, strictly rising, and well-formed tasks.
+/// The running tasks, if all are well-formed and each has a higher number than the one before it.
 fn read_running(record: &[u8]) -> Result<BTreeMap<u16, Running>, Unsound> {
     let mut running = BTreeMap::new();
     let mut previous = None;
@@ -147,7 +147,7 @@ fn read_entry(entry: &[u8]) -> Result<Running, Unsound> {
     Ok(Running { task, position })
 }
 
-/// The free cells, once each task fits on the empty device and none share a cell.
+/// The free cells, if each task fits by itself and no cell has two holders.
 fn free_cells(device: &Device, running: &BTreeMap<u16, Running>) -> Result<CellSet, Unsound> {
     let mut held = CellSet::empty();
     let mut free = CellSet::all_of(device);
@@ -163,7 +163,7 @@ fn free_cells(device: &Device, running: &BTreeMap<u16, Running>) -> Result<CellS
     Ok(free)
 }
 
-/// The listed intervals are exactly the maximal free runs of the column, upwards.
+/// That the listed intervals are those of the column's free cells, from the lowest up.
 fn check_intervals(
     device: &Device,
     free: &CellSet,
@@ -196,7 +196,7 @@ fn check_intervals(
     }
 }
 
-/// The cells from bottom to top, if they are a maximal run of free cells.
+/// The cells from bottom to top, if these are free and the next ones on either side are not.
 fn maximal_free_run(
     device: &Device,
     free: &CellSet,

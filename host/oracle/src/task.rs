@@ -10,7 +10,7 @@ pub const MAX_BLOCKS: usize = 32;
 /// How far a block's bottom and top are from 0 at most.
 pub const REACH: i64 = 256;
 
-/// A block; bottom and top are relative to the first block's bottom.
+/// A block; its bottom and top count from where the task's first block begins.
 #[derive(Clone, Copy, Debug, PartialEq, Eq, Hash)]
 pub struct Block {
     /// The column, counted from the task's own first column.
@@ -88,7 +88,7 @@ impl Task {
         &self.blocks
     }
 
-    /// The step of the task's ranges: 2 when all blocks are C, 5 when none is, 10 when both occur.
+    /// The step of the task's ranges: the height of its blocks, or 10 where they have both heights.
     pub fn step(&self) -> i64 {
         let some_c = self.blocks.iter().any(|block| block.kind == Kind::C);
         let some_other = self.blocks.iter().any(|block| block.kind != Kind::C);
@@ -113,7 +113,7 @@ pub fn read_blocks(bytes: &[u8]) -> Option<Vec<Block>> {
         .collect()
 }
 
-/// The sentences of well-formedness that speak of one block alone.
+/// What well-formedness asks of one block alone.
 fn block_ok(block: &Block) -> bool {
     let bottom = i64::from(block.bottom);
     let top = i64::from(block.top);
@@ -125,17 +125,17 @@ fn block_ok(block: &Block) -> bool {
         && size % block.kind.height() == 0
 }
 
-/// The sentences of well-formedness that speak of two blocks in a row.
+/// What well-formedness asks of two blocks in a row.
 fn follows(previous: &Block, block: &Block) -> bool {
     if block.column != previous.column {
-        // Columns never fall; one between the two may have no block.
+        // To the right, and as far as one likes.
         return block.column > previous.column;
     }
-    // Touching blocks would be one block, so a gap is asked for.
+    // With a gap: two blocks that touch have to be written as one.
     block.kind == previous.kind && block.bottom > previous.top
 }
 
-/// Well-formedness, sentence by sentence.
+/// Well-formedness: of the first block, of each block, and of neighbours.
 fn is_well_formed(blocks: &[Block]) -> bool {
     let first_is_good = blocks
         .first()

@@ -6,29 +6,29 @@ use crate::listing::Search;
 use crate::record::{self, Entry};
 use crate::task::{is_sized, Task};
 
-/// The numbers of document 01's table.
+/// The refusals (MODEL 13.1).
 pub mod refusal {
-    /// The record is not 29,188 bytes.
+    /// The record has another length.
     pub const RECORD_LENGTH: i32 = -1;
-    /// The record is not sound.
+    /// The record has the right length and is not sound.
     pub const RECORD_NOT_SOUND: i32 = -2;
-    /// The device is out of its limits, or there is no such column.
+    /// This is no device, or it has no column of that number.
     pub const DEVICE_OR_COLUMN: i32 = -3;
-    /// The task bytes are 0, over 192, or no multiple of 6.
+    /// The bytes are not those of 1 to 32 blocks.
     pub const TASK_LENGTH: i32 = -4;
-    /// The task is not well-formed.
+    /// The blocks are no well-formed task.
     pub const TASK_NOT_WELL_FORMED: i32 = -5;
-    /// The output is under 24,576 bytes.
+    /// The output is too short.
     pub const OUTPUT_SHORT: i32 = -6;
-    /// The number is 0, over 65,535 or running.
+    /// The number can't be a task's, or is another task's.
     pub const BAD_NUMBER: i32 = -7;
-    /// 64 tasks run.
+    /// No further task may run.
     pub const FULL: i32 = -8;
-    /// No position fits.
+    /// The task fits nowhere.
     pub const NO_POSITION: i32 = -9;
-    /// The task does not fit there.
+    /// The task does not fit at this position.
     pub const MISFIT: i32 = -10;
-    /// The number is not running.
+    /// No task has the number.
     pub const NOT_RUNNING: i32 = -11;
 }
 
@@ -64,7 +64,7 @@ pub fn task(bytes: &[u8]) -> Result<Task, i32> {
     Task::from_bytes(bytes).ok_or(refusal::TASK_NOT_WELL_FORMED)
 }
 
-/// New: writes the record with all cells free. Answers 0, −1 or −3.
+/// New: makes the record of a device on which nothing runs. Answers 0, −1 or −3.
 pub fn new(record: &mut [u8], rows: u32, kinds: &[u8]) -> i32 {
     let Ok(record) = <&mut Record>::try_from(record) else {
         return refusal::RECORD_LENGTH;
@@ -77,7 +77,7 @@ pub fn new(record: &mut [u8], rows: u32, kinds: &[u8]) -> i32 {
     0
 }
 
-/// Place: enters the task as running. Answers 0, −1, −2, −4, −5, −7, −8 or −10.
+/// Place: puts a task into the record. Answers 0, −1, −2, −4, −5, −7, −8 or −10.
 pub fn place(record: &mut [u8], task: &[u8], number: u32, column: u32, bottom: i32) -> i32 {
     answer(try_place(record, task, number, column, bottom))
 }
@@ -106,7 +106,7 @@ fn try_place(record: &mut [u8], bytes: &[u8], number: u32, column: u32, bottom: 
     Ok(0)
 }
 
-/// Release: frees the task's cells and removes its entry. Answers 0, −1, −2 or −11.
+/// Release: takes a task out of the record. Answers 0, −1, −2 or −11.
 pub fn release(record: &mut [u8], number: u32) -> i32 {
     answer(try_release(record, number))
 }
@@ -118,7 +118,7 @@ fn try_release(record: &mut [u8], number: u32) -> Answer {
     Ok(0)
 }
 
-/// List: writes the ranges and answers their number, or −1, −2, −4, −5, −6 or −9.
+/// List: writes the ranges. Answers how many, or −1, −2, −4, −5, −6 or −9.
 pub fn list(record: &[u8], task: &[u8], output: &mut [u8]) -> i32 {
     let listed = checked(record).and_then(|record| search_list(record, task, output));
     answer(listed)
@@ -168,7 +168,7 @@ pub fn interval_count(record: &[u8], column: u32) -> i32 {
     answer(counted.map(|count| count as i32))
 }
 
-/// The view: a column's intervals as a part of the record, empty where interval count refuses.
+/// The view: the bytes of a column's intervals, in their place in the record; none where interval count refuses.
 pub fn view(record: &[u8], column: u32) -> &[u8] {
     counted(record, column).unwrap_or(&[])
 }

@@ -7,7 +7,7 @@ use crate::task::Task;
 
 /// What a position costs, and how far up it costs no less.
 struct Score {
-    /// n: the free intervals that remain of those that held a block.
+    /// n: how many intervals are left of those into which a block is put.
     pieces: u32,
     /// s: the heights of the intervals that hold the blocks, added up.
     stretch: u32,

@@ -74,8 +74,8 @@ pub fn cut(part: &mut Part, count: usize, bottom: u32, top: u32) -> usize {
     stream.copy_to(part)
 }
 
-/// Puts the half rows from bottom to top in, which were not free, and joins them
-/// to free neighbours on both sides; answers the new count.
+/// Puts the half rows from bottom to top in, which were not free, as one interval
+/// with those that touch them below and above; answers the new count.
 pub fn join(part: &mut Part, count: usize, bottom: u32, top: u32) -> usize {
     let mut stream = Stream::new();
     let mut joined = Interval { bottom, top };

@@ -1,4 +1,4 @@
-//! The calls of document 01 in plain Rust, **unverified**.
+//! The calls of the model (`docs/MODEL.md`) in plain Rust, **unverified**.
 //!
 //! It has the algorithms and the checks of the proved library, written as an
 //! engineer writes them who need not prove anything. Its use is to measure the

@@ -2,7 +2,7 @@
 
 use crate::layout::{height, BLOCK_SIZE, MAX_BLOCKS, MAX_COLUMNS, MAX_KIND, REACH};
 
-/// A block; bottom and top are relative to the first block's bottom.
+/// A block; its bottom and top count from where the task's first block begins.
 ///
 /// The fields are as narrow as the bytes they come from: a task is read for every running entry.
 #[derive(Clone, Copy, Debug)]

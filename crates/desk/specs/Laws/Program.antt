@@ -25,10 +25,14 @@ use Rattle.desk.specs.declared.input.Begun.the-variants as begun
 use Rattle.desk.specs.declared.program.Stand.{Stand}
 use Rattle.desk.specs.Desk.{desk-of, draft-room, Drafted, Shows, Leaves}
 use Rattle.desk.specs.Input.{Ends, Begins}
-use Rattle.desk.specs.Run.{State, state, printed, desk-in, left-in, yet, stand-at, Standing, Faults, Starts, Turned, Turns, printed-in}
+use Rattle.desk.specs.Run.{State, state, printed, desk-in, left-in, yet, Standing, Faults, Starts, Turned, Turns, printed-in}
 use Rattle.desk.specs.Laws.Card.{card-of}
 use Rattle.desk.specs.Laws.Input.{lines-none}
 use Rattle.desk.specs.Laws.Shows.{shows-printed}
+
+-- the stand at the line that starts at `at`, if one does
+abbrev stand-at : List ℕ → ℕ → ℕ → ℕ → ℕ → Stand
+stand-at input at number used printed = record { printed = printed; more = ltb at (length input); at = at; number = number; used = used }
 
 -- ---- the desk stays within the limits
 

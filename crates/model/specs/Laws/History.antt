@@ -21,7 +21,7 @@ use Rattle.model.specs.Sound.{number-ok, rising, task-ok, apart, book-ok
 use Rattle.model.specs.Calls.{Call, list, choose, Outcome, refused, no-position, unless, on-book}
 use Rattle.model.specs.OnRecord.{written, on-record, new}
 use Rattle.model.specs.History.{Trace, trace, on-records, book-of-history}
-use Rattle.model.specs.Demand3.{AllOnCells, device, Listed, History}
+use Rattle.model.specs.Claim.{AllOnCells, device, Listed, History}
 use Rattle.model.specs.Laws.Bounded.{and-to, and5-to, is-false}
 use Rattle.model.specs.Laws.Listing.{listing-names}
 use Rattle.model.specs.Laws.OnCells.{fitting-cells, nowhere-cells}

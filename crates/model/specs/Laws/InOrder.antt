@@ -9,7 +9,7 @@ use Rattle.model.specs.Bounded.{In, join-below, those-below}
 use Rattle.model.specs.Columns.{Device, columns, half-rows}
 use Rattle.model.specs.Book.{Book, fits}
 use Rattle.model.specs.Listing.{Position, position, fitting}
-use Rattle.model.specs.Demand3.{Before, InOrder}
+use Rattle.model.specs.Claim.{Before, InOrder}
 use Rattle.model.specs.Laws.Bounded.{map-append}
 
 -- L is in order, and all of it comes before column p, bottom n

@@ -13,7 +13,7 @@ use Rattle.model.specs.Book.{Book, free, fits, cell-free}
 use Rattle.model.specs.Listing.{position, fitting}
 use Rattle.model.specs.Calls.{no-position}
 use Rattle.model.specs.Sound.{within}
-use Rattle.model.specs.Demand3.{OnCells, AllOnCells}
+use Rattle.model.specs.Claim.{OnCells, AllOnCells}
 use Rattle.model.specs.Bounded.{In}
 use Rattle.model.specs.Laws.Bounded.{is-false, clash}
 use Rattle.model.specs.Laws.Columns.{height-pos}

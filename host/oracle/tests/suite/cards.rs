@@ -1,4 +1,4 @@
-//! K1 to K10 of document 01, the small cards by hand.
+//! The small cards K1 to K10 (MODEL 19.1), and cards cut up as far as can be.
 
 use crate::helpers::{card, listing, task, view};
 use oracle::calls::{choose, interval_count, place, release};

@@ -40,7 +40,7 @@ fn run(rng: &mut Rng, device: Device, mood: Mood, calls: usize) -> BTreeSet<i32>
     answers
 }
 
-/// List, choose and refusals leave the record; place leaves columns it does not cover.
+/// A list, a choose or a refusal changes no byte; a place changes no column in which it has no block.
 fn check_what_stays(call: &Call, answer: i32, before: &[u8], after: &[u8]) {
     let changes = matches!(call, Call::Place { .. } | Call::Release { .. });
     if answer < 0 || !changes {

@@ -1,5 +1,5 @@
-//! Every refusal of the table, alone and together with every other that can
-//! apply to the same call: the one nearest to 0 is returned, no byte changes.
+//! Every refusal of the table, alone and together with every other that the same
+//! call may have: the upper row of the table is the answer, and all bytes stay.
 
 use crate::helpers::{card, kinds, task};
 use oracle::calls;
@@ -16,12 +16,12 @@ fn subsets(faults: &[i32]) -> Vec<Vec<i32>> {
     (0..1 << faults.len()).map(pick).collect()
 }
 
-/// The fault nearest to 0, or 0 itself.
+/// The first fault in the table's order, or 0 where there is none.
 fn nearest(faults: &[i32], otherwise: i32) -> i32 {
     faults.iter().copied().max().unwrap_or(otherwise)
 }
 
-/// Makes a record too short, too long or empty, or unsound, as the faults say.
+/// Spoils a record's length, or its soundness, as the faults say.
 fn spoil(record: &mut Vec<u8>, faults: &[i32], variant: usize) {
     if faults.contains(&-2) {
         match variant % 3 {

@@ -1,5 +1,5 @@
-//! The sheet: document 01's example byte for byte, and its rules one by one,
-//! with the readings of the open points 1 to 17.
+//! The sheet: the example (MODEL 18.14) byte for byte, and the rules one by one,
+//! with decisions 1 to 17 of `docs/DECISIONS.md`.
 
 use oracle::sheet::{sheet, MAX_SHEET, OUTPUT_NAMES};
 

@@ -1,4 +1,4 @@
-//! Soundness, clause by clause: each sentence broken alone is noticed as such.
+//! Soundness: each rule of MODEL 9.2 to 9.8, broken alone, is noticed as such.
 
 use crate::helpers::{card, task};
 use oracle::calls;

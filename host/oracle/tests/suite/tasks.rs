@@ -1,4 +1,4 @@
-//! Well-formedness, sentence by sentence, on both sides of each limit.
+//! Well-formedness, rule by rule (MODEL 4.5 to 4.10), on both sides of each limit.
 
 use crate::helpers::task;
 use oracle::{Refusal, Task};
