@@ -1,31 +1,21 @@
-//! The script `./sheet`, with an `rt` that stands in for the kit's and builds a program that prints its input:
+//! The script with an `rt` that stands in for the kit's and builds a program that prints its input:
 //! the file is looked at before anything is built, and the script works from any folder and through a link.
 
 use std::env;
-use std::fs;
 use std::os::unix::fs::symlink;
 use std::path::{Path, PathBuf};
 use std::process::{Command, Output};
 
 const SHEET: &str = "rows kinds\n";
 
-/// A repository of its own with the script in it, nothing built, and one sheet in a folder of it.
+/// A repository in which nothing is built, with a sheet.
 fn repository(name: &str) -> PathBuf {
-    let package = Path::new(env!("CARGO_MANIFEST_DIR"));
-    let folder = Path::new(env!("CARGO_TARGET_TMPDIR")).join("script-tests");
-    let top = folder.join(name);
-    let _ = fs::remove_dir_all(&top);
-    fs::create_dir_all(top.join("crates")).expect("a new folder");
-    fs::create_dir_all(top.join("sheets")).expect("a new folder");
-    fs::write(top.join("crates.txt"), "sheet:\n").expect("a new file");
-    fs::write(top.join("sheets/one"), SHEET).expect("a new file");
-    fs::copy(package.join("../../sheet"), top.join("sheet")).expect("the script");
-    top
+    crate::repository(name, SHEET)
 }
 
 /// Runs the script by a path, in the folder of sheets, with words.
 fn run(top: &Path, script: &Path, words: &[&str]) -> Output {
-    let stand_ins = Path::new(env!("CARGO_MANIFEST_DIR")).join("tests/stand-ins");
+    let stand_ins = crate::stand_ins();
     let mut path = vec![stand_ins];
     path.extend(env::split_paths(&env::var_os("PATH").expect("a PATH")));
     Command::new("bash")

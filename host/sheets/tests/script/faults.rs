@@ -1,6 +1,5 @@
 //! Reads and writes that fail: a message on standard error, and status 1 from `./sheet`. A failed read is never the end of the input.
 
-use std::env;
 use std::fs::{self, File};
 use std::path::{Path, PathBuf};
 use std::process::{Command, Output, Stdio};
@@ -11,17 +10,10 @@ use oracle::sheet::sheet;
 const SHEET: &str =
     "rows kinds\n5 CCB\ncall task column kind bottom top\nB 0 0 C 0 2\nL 0 0 - 0 0\n";
 
-/// A repository of its own with the script and the built program, which is newer than its sources.
+/// A repository with the built program, which is newer than its sources, and the sheet.
 fn repository(name: &str) -> PathBuf {
-    let package = Path::new(env!("CARGO_MANIFEST_DIR"));
-    let folder = Path::new(env!("CARGO_TARGET_TMPDIR")).join("fault-tests");
-    let top = folder.join(name);
-    let _ = fs::remove_dir_all(&top);
-    fs::create_dir_all(top.join("crates")).expect("a new folder");
+    let top = crate::repository(name, SHEET);
     fs::create_dir_all(top.join("target/bin")).expect("a new folder");
-    fs::write(top.join("crates.txt"), "sheet:\n").expect("a new file");
-    fs::write(top.join("one"), SHEET).expect("a new file");
-    fs::copy(package.join("../../sheet"), top.join("sheet")).expect("the script");
     fs::copy(sheets::program(), top.join("target/bin/sheet")).expect("the program is built");
     top
 }
@@ -29,8 +21,8 @@ fn repository(name: &str) -> PathBuf {
 /// Runs the script in its repository with a word, which may be a redirection, by a shell.
 fn run(top: &Path, words: &str, output: Stdio) -> Output {
     let child = Command::new("sh")
-        .args(["-c", &format!("exec ./sheet {words}")])
-        .current_dir(top)
+        .args(["-c", &format!("exec ../sheet {words}")])
+        .current_dir(top.join("sheets"))
         .stdin(Stdio::null())
         .stdout(output)
         .stderr(Stdio::piped())
@@ -85,9 +77,9 @@ fn a_full_device_cannot_be_written() {
     failed(&run, "sheet: standard output: No space left on device\n");
 }
 
-/// Compiles `tests/stand-ins/read.c`, whose `read` takes the place of the C library's.
+/// Compiles `stand-ins/read.c`, whose `read` takes the place of the C library's.
 fn reads(name: &str) -> PathBuf {
-    let source = Path::new(env!("CARGO_MANIFEST_DIR")).join("tests/stand-ins/read.c");
+    let source = crate::stand_ins().join("read.c");
     let library = Path::new(env!("CARGO_TARGET_TMPDIR")).join(format!("read-{name}.so"));
     let status = Command::new("gcc")
         .args(["-shared", "-fPIC", "-Wall", "-Werror", "-o"])
