@@ -12,7 +12,7 @@
  * The caller keeps, and nothing checks, that
  *   - each pointer is valid for its length, for writing where it is not const; with length 0 it may be any, NULL too;
  *   - a part that is written overlaps no other part of the same call;
- *   - nobody else writes or reads a record while a call writes it.
+ *   - nobody else writes a part while a call uses it, or reads one that it writes.
  *
  * Promised, and proved, for all bytes, lengths and numbers whatever:
  *   - the answer and every byte are those that the model defines;
@@ -93,17 +93,17 @@ enum card_kind {
 
 /* The refusals: the table of docs/MODEL.md, 13.1. */
 enum card_refusal {
-    CARD_RECORD_LENGTH = -1,        /* the record is not 29,188 bytes */
-    CARD_RECORD_NOT_SOUND = -2,     /* the record is not sound (all but new) */
-    CARD_DEVICE_OR_COLUMN = -3,     /* new: rows, kind count or a kind; interval count: no such column */
-    CARD_TASK_LENGTH = -4,          /* task bytes: 0, over 192, or no multiple of 6 */
+    CARD_RECORD_LENGTH = -1,        /* the record has not CARD_RECORD_SIZE bytes */
+    CARD_RECORD_NOT_SOUND = -2,     /* the record is not sound; card_new does not ask */
+    CARD_DEVICE_OR_COLUMN = -3,     /* new: no device with such rows and kinds; interval count: no such column */
+    CARD_TASK_LENGTH = -4,          /* the task is not 1 to CARD_MAX_BLOCKS whole blocks */
     CARD_TASK_NOT_WELL_FORMED = -5, /* the task is not well-formed */
-    CARD_OUTPUT_SHORT = -6,         /* list: output under 24,576 bytes */
-    CARD_BAD_NUMBER = -7,           /* place: number 0, over 65,535 or running */
-    CARD_FULL = -8,                 /* place: 64 tasks run */
-    CARD_NO_POSITION = -9,          /* list, choose: no position fits */
-    CARD_MISFIT = -10,              /* place: it does not fit there */
-    CARD_NOT_RUNNING = -11,         /* release: number not running */
+    CARD_OUTPUT_SHORT = -6,         /* list: the output has less than CARD_LIST_ROOM bytes */
+    CARD_BAD_NUMBER = -7,           /* place: the number is not 1 to 65,535, or runs already */
+    CARD_FULL = -8,                 /* place: CARD_MAX_RUNNING tasks run already */
+    CARD_NO_POSITION = -9,          /* list, choose: the task fits nowhere */
+    CARD_MISFIT = -10,              /* place: the task does not fit at this position */
+    CARD_NOT_RUNNING = -11,         /* release: no task runs under the number */
     CARD_MALFORMED_LINE = -12       /* the sheet's line reader only */
 };
 

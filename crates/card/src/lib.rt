@@ -1,6 +1,6 @@
 // MODEL 12, 13 and 16: the calls on one card's record, for the match server. All but the view have the C calling form (MODEL 16.4).
 // Each contract fixes the answer and every lent byte by the model's call on these bytes (model/specs/OnRecord.antt), refused or not (MODEL 21.1).
-// In a contract `.entry` is what lies behind a reference as the call starts, and `.exit` as it returns.
+// In a contract `.entry` is what lies behind a reference as the call starts, and `.exit` as it returns. What is lent as `&` is kept by its type.
 // `on-record` is also the step of the theorem about whole histories (model/specs/Laws/History.antt).
 use choice::Best;
 use listing::output::Listed;

@@ -42,7 +42,7 @@ yet input s = cond (s .stand .more) (on-lines (s .stand .number) (desk-in s) (le
 abbrev pub ended : ℕ → Stand
 ended printed = record { printed = printed; more = false; at = 0; number = 0; used = 0 }
 
--- a turn can be made: a line is left, there is a card and a draft of whole blocks, and line numbers are no more than bytes, and three more
+-- a turn can be made: a line is left, there is a card and a draft of whole blocks, and its number is at most four more than the byte at which it starts
 pub record Standing (input : List ℕ) (s : State) : Type 0 where
   pub is-card : Card (s .card)
   pub drafted : Drafted (s .draft) (s .stand .used)

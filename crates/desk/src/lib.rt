@@ -12,6 +12,9 @@ mod ranges; // L
 // The most bytes of an input.
 pub const MAX_SHEET: usize = 32768;
 
+// The greatest input, and one byte more, by which a longer one is known.
+pub const INPUT_ROOM: usize = MAX_SHEET + 1;
+
 // The bytes of the greatest draft.
 pub const DRAFT_ROOM: usize = model::BLOCK_SIZE * model::MAX_BLOCKS;
 

@@ -1,4 +1,4 @@
--- MODEL 18: the output for the example of document 01, computed from the definitions. Assumes nothing.
+-- MODEL 18.14: the output for the example sheet, computed from the definitions. Assumes nothing.
 use mathlib.Core.Path.{_≡_, refl}
 use Rattle.runs.specs.Runs.{runs, push}
 use Rattle.runs.specs.Intervals.{intervals as maximal-runs}

@@ -6,9 +6,6 @@ ghost use mathlib.Core.Path.{_≡_};
 ghost use lib.ListN.{length};
 ghost use Prim.Native.Nat.{_≤_};
 
-// The greatest input, and one byte more, by which a longer one is known.
-const INPUT_ROOM: usize = desk::MAX_SHEET + 1;
-
 // What was read: how many bytes, and whether the reading went well. It did not where a read failed or was interrupted.
 struct Got {
     count: usize,
@@ -72,7 +69,7 @@ fn run(input: &[u8]) -> bool {
 }
 
 fn main() {
-    let mut input = [0u8; INPUT_ROOM];
+    let mut input = [0u8; desk::INPUT_ROOM];
     let got = read(&mut input);
     if !got.well {
         os::fail(b"sheet: standard input");

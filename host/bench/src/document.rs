@@ -1,4 +1,4 @@
-//! The document: written by hand, but for the parts between two marks, which are made from the stored runs.
+//! The documents: written by hand, but for the parts between two marks, which are made from the stored runs.
 
 use crate::growth::SERIES;
 use crate::summary::Summary;
@@ -21,6 +21,11 @@ pub fn fill(text: &str, name: &str, part: &str) -> Result<String, String> {
         .split_once(END)
         .ok_or_else(|| format!("the part {name} has no end"))?;
     Ok(format!("{before}{mark}\n{part}\n{END}{after}"))
+}
+
+/// The README with its lines on speed made anew.
+pub fn filled_readme(text: &str, summary: &Summary) -> Result<String, String> {
+    fill(text, "top", &table::top(summary))
 }
 
 /// The document with all its parts made anew.

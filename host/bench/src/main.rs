@@ -1,7 +1,7 @@
 //! The benchmark.
 //!
 //!     bench run [--quick] FOLDER    measures, and stores the run in FOLDER/performance under the next number
-//!     bench document FOLDER         makes the tables of FOLDER/PERFORMANCE.md and the plot from all stored runs
+//!     bench document FOLDER         makes the tables of FOLDER/PERFORMANCE.md, the plot and the README's lines on speed from all stored runs
 //!
 //! A run takes about a minute, and is made with `--release`. `--quick` makes fewer rounds, for a try.
 
@@ -27,7 +27,7 @@ use calls::SUBJECTS;
 const ROUNDS: usize = 301;
 /// How many it has when only trying.
 const QUICK_ROUNDS: usize = 11;
-/// Four turns are shorter than a time slice, so that most rounds are not broken off.
+/// Four turns are shorter than a time slice, so that most rounds are not broken off. A call that takes longer is a turn by itself.
 const TURN: Duration = Duration::from_micros(200);
 
 /// The four loads; every implementation must come to the same records.
@@ -120,6 +120,9 @@ fn write_document(folder: &Path) -> Result<(), Box<dyn Error>> {
     let path = folder.join("PERFORMANCE.md");
     let text = document::filled(&fs::read_to_string(&path)?, &summary)?;
     fs::write(path, text)?;
+    let readme = folder.join("../README.md");
+    let text = document::filled_readme(&fs::read_to_string(&readme)?, &summary)?;
+    fs::write(readme, text)?;
     fs::write(runs.join("growth.svg"), plot::svg(&summary))?;
     Ok(())
 }

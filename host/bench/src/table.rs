@@ -5,7 +5,7 @@ use crate::names::{
     ratio, time, Ratio, CALLS, CALL_RATIOS, MATRIX, PLAIN, PROVED, SEARCHES, SEARCH_RATIOS,
 };
 use crate::summary::{spread, Spread, Summary, COMMON};
-use crate::targets::{Measure, CHECK, CHOICE, SLOWNESS, TARGETS};
+use crate::targets::{Better, Measure, CHECK, CHOICE, SLOWNESS, TARGETS};
 
 /// What stands where there is no figure.
 const NONE: &str = "–";
@@ -116,12 +116,16 @@ pub fn targets(summary: &Summary) -> String {
     table(&heads.map(String::from), &rows)
 }
 
-/// The worst ratio on each load, as words.
+/// The worst ratio of all runs on each load, as words.
 fn by_load(summary: &Summary, measure: Measure) -> String {
     let loads = summary.loads(measure.part);
     let words = |load: &&str| {
-        let worst = spread(&measure.worst(summary, load));
-        format!("{} ({load})", shown(worst.median))
+        let by_run = spread(&measure.worst(summary, load));
+        let worst = match measure.better {
+            Better::Lower => by_run.greatest,
+            Better::Higher => by_run.least,
+        };
+        format!("{} ({load})", shown(worst))
     };
     loads.iter().map(words).collect::<Vec<_>>().join("; ")
 }
@@ -132,9 +136,9 @@ pub fn top(summary: &Summary) -> String {
     let choice = by_load(summary, CHOICE);
     let check = by_load(summary, CHECK);
     format!(
-        "- **A call beside the same algorithm in unverified Rust**, for a task of 5 blocks or a comb of 16. The slowest took, in times of the other: {slowness}.\n\
-         - **Choosing beside the scan of a cell matrix**, for the same tasks. Where it gains least, the scan took, in times of choosing: {choice}.\n\
-         - **The check of the record beside a comparison of its bytes**; every call but new makes it. It took, in times of the other: {check}.\n"
+        "- **A call beside the same algorithm in unverified Rust**, for a task of 5 blocks or a comb of 16. The slowest took at most, in times of the other: {slowness}.\n\
+         - **Choosing beside the scan of a cell matrix**, for the same tasks. Where it gains least, the scan took at least, in times of choosing: {choice}.\n\
+         - **The check of the record beside a comparison of its bytes**; every call but new makes it. It took at most, in times of the other: {check}.\n"
     )
 }
 

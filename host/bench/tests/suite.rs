@@ -5,7 +5,7 @@ use std::fs;
 use std::path::Path;
 
 use bench::clock::processor_time;
-use bench::document::{fill, filled};
+use bench::document::{fill, filled, filled_readme};
 use bench::machine::processor_of;
 use bench::measure::{median, quartiles, take_turns, Named, Samples};
 use bench::names::{CALL_RATIOS, PLAIN, PROVED};
@@ -253,6 +253,9 @@ fn the_document_and_the_plot_are_those_of_the_stored_runs() {
     let text = fs::read_to_string(docs.join("PERFORMANCE.md")).expect("the document");
     let is_same = filled(&text, &summary).as_deref() == Ok(&text);
     assert!(is_same, "`bench document` makes the document anew");
+    let text = fs::read_to_string(docs.join("../README.md")).expect("the README");
+    let is_same = filled_readme(&text, &summary).as_deref() == Ok(&text);
+    assert!(is_same, "`bench document` makes its lines on speed anew");
     let svg = fs::read_to_string(docs.join("performance/growth.svg")).expect("the plot");
     assert!(
         svg == plot::svg(&summary),

@@ -11,7 +11,7 @@ use core::fmt;
 ///
 /// assert_eq!(Refusal::NoPosition.number(), -9);
 /// assert_eq!(Refusal::from_number(-9), Some(Refusal::NoPosition));
-/// assert_eq!(Refusal::NoPosition.to_string(), "no position fits (-9)");
+/// assert_eq!(Refusal::NoPosition.to_string(), "the task fits nowhere (-9)");
 /// ```
 // Not `non_exhaustive`: the table says that these are the only ones. A later
 // request that adds one changes the calls too, and then a `match` in the server
@@ -19,27 +19,27 @@ use core::fmt;
 #[derive(Clone, Copy, Debug, PartialEq, Eq, Hash)]
 #[repr(i32)]
 pub enum Refusal {
-    /// The record is not 29,188 bytes.
+    /// The record has another length than [`RECORD_SIZE`](crate::RECORD_SIZE).
     RecordLength = -1,
     /// The record is not sound.
     RecordNotSound = -2,
-    /// New: rows not 1 to 128, kind count not 1 to 64, or no such kind. Interval count: no such column.
+    /// New: too few or too many rows or columns, or a byte that is no kind. Interval count: the device has no such column.
     DeviceOrColumn = -3,
-    /// The task bytes are 0, over 192, or no multiple of 6.
+    /// The task is not 1 to 32 whole blocks.
     TaskLength = -4,
     /// The task is not well-formed.
     TaskNotWellFormed = -5,
-    /// List: the output is under 24,576 bytes.
+    /// List: the output is shorter than [`LIST_ROOM`](crate::LIST_ROOM).
     OutputShort = -6,
-    /// Place: the number is 0, over 65,535 or running.
+    /// Place: no task may have this number, or one runs under it already.
     BadNumber = -7,
-    /// Place: 64 tasks run.
+    /// Place: as many tasks run as may.
     Full = -8,
-    /// List and choose: no position fits.
+    /// List and choose: the task fits nowhere.
     NoPosition = -9,
-    /// Place: the task does not fit there, positions off the device included.
+    /// Place: the task does not fit at this position, which may be off the device.
     Misfit = -10,
-    /// Release: the number is not running.
+    /// Release: no task runs under this number.
     NotRunning = -11,
     /// Line reader: the line is malformed. It is there because the table is one; no call of this crate gives it.
     MalformedLine = -12,
@@ -77,17 +77,17 @@ impl Refusal {
     /// What the refusal says.
     fn text(self) -> &'static str {
         match self {
-            Refusal::RecordLength => "the record is not 29,188 bytes",
+            Refusal::RecordLength => "the record has another length than 29,188 bytes",
             Refusal::RecordNotSound => "the record is not sound",
-            Refusal::DeviceOrColumn => "malformed device, or no such column",
-            Refusal::TaskLength => "task bytes are 0, over 192, or no multiple of 6",
+            Refusal::DeviceOrColumn => "no such device, or no such column",
+            Refusal::TaskLength => "the task is not 1 to 32 whole blocks",
             Refusal::TaskNotWellFormed => "the task is not well-formed",
-            Refusal::OutputShort => "the output is under 24,576 bytes",
-            Refusal::BadNumber => "the number is 0, over 65,535 or running",
-            Refusal::Full => "64 tasks run",
-            Refusal::NoPosition => "no position fits",
-            Refusal::Misfit => "the task does not fit there",
-            Refusal::NotRunning => "the number is not running",
+            Refusal::OutputShort => "the output has less than 24,576 bytes",
+            Refusal::BadNumber => "the number is out of range, or runs already",
+            Refusal::Full => "64 tasks run already",
+            Refusal::NoPosition => "the task fits nowhere",
+            Refusal::Misfit => "the task does not fit at this position",
+            Refusal::NotRunning => "no task runs under the number",
             Refusal::MalformedLine => "the line is malformed",
         }
     }

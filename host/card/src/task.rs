@@ -140,8 +140,8 @@ impl Task {
         blocks.iter().fold(Task::builder(), add).build()
     }
 
-    /// The task of these bytes: −4 where their number is 0, over 192 or
-    /// no multiple of 6, and −5 where a kind byte is above 2.
+    /// The task of these bytes: −4 where they are not 1 to 32 whole blocks,
+    /// and −5 where a kind byte is above 2.
     ///
     /// ```
     /// use card::{Kind, Refusal, Task};

@@ -107,12 +107,24 @@ fn every_clause_that_a_document_cites_is_there() {
     }
 }
 
+/// The files of crates, examples and host crates, without what cargo builds.
+fn sources() -> Vec<PathBuf> {
+    let host = fs::read_dir(top().join("host")).expect("the host crates");
+    let host = host.map(|entry| entry.expect("an entry").path());
+    let built = |path: &PathBuf| !path.is_dir() || path.ends_with("target");
+    let folders = ["crates", "examples"].map(|folder| top().join(folder));
+    let folders = folders.into_iter().chain(host.filter(|path| !built(path)));
+    folders
+        .flat_map(|folder| files(&folder).expect("a folder"))
+        .collect()
+}
+
 #[test]
 fn every_clause_that_a_comment_cites_is_there() {
     let stated = stated();
-    let sources = files(&top().join("crates")).expect("the crates");
-    for path in sources {
-        let source = ["antt", "rt"].iter().any(|ending| ends_with(&path, ending));
+    for path in sources() {
+        let endings = ["antt", "rt", "edit", "rs", "h", "c"];
+        let source = endings.iter().any(|ending| ends_with(&path, ending));
         let text = if source { read(&path) } else { continue };
         for clause in cited_as_model(&text) {
             assert!(stated.contains(&clause), "{}: {clause:?}", path.display());

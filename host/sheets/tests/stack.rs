@@ -6,7 +6,7 @@ use std::process::{Command, Output};
 use oracle::sheet::sheet;
 use sheets::{compare, ended_well};
 
-/// What the program needs at most, in KiB; its frames take 439, and the rest is for the loader and for what
+/// What the program needs at most, in KiB: its frames take most of it, and the rest is for the loader and for what
 /// the system puts above them.
 const STACK: usize = 512;
 

@@ -1,4 +1,5 @@
--- THEOREM `program-done`: a start and the turns after it, each on what the one before it left, print the model's program. Assumes nothing.
+-- THEOREM `program-done`: a start and the turns after it up to the end, each on what the one before it left, print the model's program. That the turns
+-- come to an end is in the proof of `sheet::run`: each leaves one line less. Assumes nothing.
 use Prim.Native.Nat.{ℕ, suc, _+_, _-_, _≤_, _<_}
 use mathlib.Core.Path.{_≡_, refl, sym, ap, _∙_}
 use mathlib.Core.Bool.{Bool, true, false, cond}

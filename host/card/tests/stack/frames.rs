@@ -1,7 +1,6 @@
 //! The frames of the archive's functions, read from its machine code by `objdump`.
 
 use std::collections::{BTreeMap, BTreeSet};
-use std::path::Path;
 use std::process::Command;
 
 /// The bytes of a pushed register or a return address.
@@ -77,10 +76,9 @@ fn read(listing: &str) -> BTreeMap<String, Function> {
 
 /// The functions of the archive.
 pub fn functions() -> BTreeMap<String, Function> {
-    let package = Path::new(env!("CARGO_MANIFEST_DIR"));
     let listed = Command::new("objdump")
         .args(["-d", "-r", "--no-show-raw-insn"])
-        .arg(package.join("../../target/staticlib/libcard.a"))
+        .arg(env!("CARD_ARCHIVE"))
         .output()
         .expect("objdump runs");
     assert!(listed.status.success(), "{}", listed.status);

@@ -73,10 +73,11 @@ fn the_rust_over_it_needs_no_more() {
 }
 
 #[test]
-fn the_header_and_the_crate_state_these_figures() {
+fn the_documents_state_these_figures() {
     let header = include_str!("../../../card.h");
     let library = include_str!("../../src/lib.rs");
-    for (name, text) in [("card.h", header), ("lib.rs", library)] {
+    let readme = include_str!("../../../../README.md");
+    for (name, text) in [("card.h", header), ("lib.rs", library), ("README", readme)] {
         for size in [NEW_STACK, CALL_STACK] {
             let figure = format!("{} KiB", size / KIB);
             assert!(text.contains(&figure), "{name} has no {figure}");

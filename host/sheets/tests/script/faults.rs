@@ -77,6 +77,15 @@ fn a_full_device_cannot_be_written() {
     failed(&run, "sheet: standard output: No space left on device\n");
 }
 
+#[test]
+fn a_pipe_that_nobody_reads_cannot_be_written() {
+    let top = repository("pipe");
+    let (reader, writer) = std::io::pipe().expect("a pipe");
+    drop(reader);
+    let run = run(&top, "one", writer.into());
+    failed(&run, "sheet: standard output: Broken pipe\n");
+}
+
 /// Compiles `stand-ins/read.c`, whose `read` takes the place of the C library's.
 fn reads(name: &str) -> PathBuf {
     let source = crate::stand_ins().join("read.c");
