@@ -209,10 +209,11 @@ fn tables_have_the_figures_of_all_runs() {
         growth.contains("| 16 | – | – | 3000 | – | 300000 | – |\n"),
         "{growth}"
     );
+    // The three lines state the worst run.
     let top = table::top(&summary);
     assert_eq!(top.lines().count(), 3);
     assert!(
-        top.contains(": 1.75 (empty, 128 rows); 1.75 (20 tasks of 5 blocks).\n"),
+        top.contains(": 2.50 (empty, 128 rows); 2.50 (20 tasks of 5 blocks).\n"),
         "{top}"
     );
 }
