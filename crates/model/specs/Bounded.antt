@@ -1,9 +1,9 @@
 -- Bounded quantifiers, sums and listings: over the numbers below a bound, and over a list; being one of a list. Assumes nothing.
 use Prim.Native.Nat.{ℕ, zero, suc, _+_}
-use mathlib.Core.Path.{_≡_}
-use mathlib.Core.Logic.{_⊎_}
 use mathlib.Core.Bool.{Bool, true, false, cond, _&&_, _||_}
 use mathlib.Core.List.{List, [], _∷_, _++_}
+-- `In x L`: x is one of the list L
+pub use Rattle.sets.specs.Graph.{In}
 
 -- p holds of each number below n
 unfoldable pub all-below : ℕ → (ℕ → Bool) → Bool
@@ -33,11 +33,6 @@ list-below n f = join-below n (λ i. f i ∷ [])
 unfoldable pub those-below : ℕ → (ℕ → Bool) → List ℕ
 those-below zero p = []
 those-below (suc n) p = those-below n p ++ cond (p n) (n ∷ []) []
-
--- x is one of the list
-abbrev pub In : {A : Type 0} → A → List A → Type 0
-In x [] = ⊥
-In x (y ∷ L) = (x ≡ y) ⊎ In x L
 
 -- p holds of each element
 unfoldable pub all-in {ℓ} : {A : Type ℓ} → (A → Bool) → List A → Bool

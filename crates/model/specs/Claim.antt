@@ -16,7 +16,7 @@ use Rattle.model.specs.Listing.{ranges, Position, position, named, fitti
 use Rattle.model.specs.Record.{record-of}
 use Rattle.model.specs.Sound.{rising}
 use Rattle.model.specs.Calls.{Call, list, choose, Outcome, range-bytes, ranges-in, over}
-use Rattle.model.specs.OnRecord.{on-record, new}
+use Rattle.model.specs.OnRecord.{on-record, new, measured, fragmentation}
 use Rattle.model.specs.History.{Trace, on-records, book-of-history}
 
 -- MODEL 6.2, 6.3 and 6.5 of block k, moved to column p and bottom y, on cells: it covers the cells m that begin, at height × m (MODEL 3.5), from its
@@ -83,3 +83,5 @@ pub record History (d : Device) (R : Trace (List ℕ)) (B : Trace Book) : Type 0
   -- MODEL 15.8: any other history on this device that ends with the same tasks ends with the same record
   pub alike : (r : List ℕ) → new r (d .rows) (d .kinds) .answer ≡ pos 0 → (cs : List Call)
       → ((e : Running) → In e (B .final) ↔ In e (book-of-history d cs .final)) → R .final ≡ on-records (new r (d .rows) (d .kinds) .state) cs .final
+  -- MODEL 15.9: a fragmentation that follows gives the numbers of the book
+  pub fragments : fragmentation (R .final) ≡ measured d (B .final) (R .final)

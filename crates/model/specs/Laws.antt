@@ -1,5 +1,6 @@
 -- What is proved of the model's definitions, from the tools up.
 pub mod Bounded
+pub mod Members
 -- lists and bytes
 pub mod Changed
 pub mod Parts
@@ -36,6 +37,8 @@ pub mod Choice
 pub mod Ends
 pub mod NoPosition
 pub mod After
+-- how broken up a card is
+pub mod Fragments
 -- the book after a call
 pub mod OnRecord
 pub mod Answers

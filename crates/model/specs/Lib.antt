@@ -7,6 +7,7 @@ pub mod Tasks
 pub mod Book
 pub mod Listing
 pub mod Choice
+pub mod Fragments
 pub mod Record
 pub mod Sound
 pub mod Calls

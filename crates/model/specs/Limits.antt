@@ -139,6 +139,10 @@ range-last-at = 4
 abbrev pub column-weight : ℕ
 column-weight = 1024
 
+-- MODEL 22.4: all of it, in hundredths of a percent
+abbrev pub whole-degree : ℕ
+whole-degree = 10000
+
 -- ---- the sheet
 
 -- MODEL 2.10: bytes in a line, without its newline

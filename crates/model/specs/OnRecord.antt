@@ -1,14 +1,16 @@
--- MODEL 12, 13 and 16: the calls on any string of bytes. The exported functions promise them (crate `card`), and they are the steps of every history.
+-- MODEL 12, 13, 16 and 22: the calls on any string of bytes. The exported functions promise them (crate `card`), and they are the steps of every history.
 -- Assumes nothing.
 use Prim.Native.Nat.{ℕ, _*_}
 use mathlib.Core.Bool.{not}
+use mathlib.Core.Option.{Option, none, some}
 use mathlib.Core.List.{List, [], _∷_}
 use lib.Dec.{ltb, eqb}
-use lib.IntN.{ℤ, pos, negsuc}
+use lib.IntN.{ℤ, pos, negsuc, negℤ}
 use lib.ListN.{length}
 use Rattle.model.specs.Limits.{record-size, interval-size}
 use Rattle.model.specs.Columns.{Device, columns, device-ok}
 use Rattle.model.specs.Book.{Book, intervals}
+use Rattle.model.specs.Fragments.{free-cells, connected-sets, degree}
 use Rattle.model.specs.Record.{record-of, device-of, book-of, part, column-at}
 use Rattle.model.specs.Sound.{sound}
 use Rattle.model.specs.Calls.{Call, Outcome, Refusal, refuse, refused, unless, lent, on-book}
@@ -49,3 +51,26 @@ view-of (negsuc n) r c = []
 -- MODEL 16.2: the view of column c
 unfoldable pub view : List ℕ → ℕ → List ℕ
 view r c = view-of (interval-count r c .answer) r c
+
+-- MODEL 22.5: what the fragmentation leaves: its answer, the two numbers that it writes, and the record
+pub record Fragmentation : Type 0 where
+  pub answer : ℤ
+  pub free : ℤ
+  pub degree : ℤ
+  pub state : List ℕ
+
+-- MODEL 22.5: the three numbers of a device and a book
+unfoldable pub measured : Device → Book → List ℕ → Fragmentation
+measured d b r =
+    let n = connected-sets d b in
+    let f = length (free-cells d b) in
+    record { answer = pos n; free = pos f; degree = pos (degree n f); state = r }
+
+-- MODEL 22.6: a refusal n is the answer − n and two zeros; without one it is m
+unfoldable pub unless-refused : Option ℕ → List ℕ → Fragmentation → Fragmentation
+unless-refused none r m = m
+unless-refused (some n) r m = record { answer = negℤ (pos n); free = pos 0; degree = pos 0; state = r }
+
+-- MODEL 22.5 and 22.6: the fragmentation, and its refusals −1 and −2 (MODEL 13.1)
+unfoldable pub fragmentation : List ℕ → Fragmentation
+fragmentation r = unless-refused (refused (wrong-length r ∷ not-sound r ∷ [])) r (measured (device-of r) (book-of r) r)

@@ -1,4 +1,4 @@
--- MODEL 19: the small cards K1 to K10, one table with one theorem about it (MODEL 21.3), computed from the definitions. Assumes nothing.
+-- MODEL 19: the small cards K1 to K17, one table with one theorem about it (MODEL 21.3), computed from the definitions. Assumes nothing.
 use Prim.Native.Nat.{ℕ}
 use mathlib.Core.Path.{_≡_, refl}
 use mathlib.Core.List.{List, [], _∷_, _++_, map}
@@ -6,16 +6,19 @@ use lib.IntN.{ℤ, pos, negsuc, negℤ}
 use lib.ListN.{replicate}
 use Rattle.runs.specs.Runs.{runs, push}
 use Rattle.runs.specs.Intervals.{intervals as maximal-runs}
+use Rattle.sets.specs.Graph.{touches, met, unmet, classes, sets}
 use Rattle.model.specs.Limits.{list-room}
 use Rattle.model.specs.Bounded.{all-below, any-below, sum-below, join-below, those-below, all-in, any-in, sum-in, join-in}
 use Rattle.model.specs.Columns.{Device, height, cells-in, top-in, columns, kind, cells, top}
 use Rattle.model.specs.Tasks.{word, lifted, blocks, block, sized, block-ok, follows, well-formed, step}
-use Rattle.model.specs.Book.{placed, covers, covered, held, free, block-fits, fits, fits-at, intervals}
+use Rattle.model.specs.Book.{placed, covers, covered, held, free, block-fits, fits, fits-at, intervals, holds-cell, cell-free}
 use Rattle.model.specs.Listing.{ranges}
 use Rattle.model.specs.Choice.{lies, left-in, remaining, pieces, holder, home, stretch, judge, better, see, climb, choice, chosen}
+use Rattle.model.specs.Fragments.{neighbours, across, touch, free-cells, connected-sets, degree}
 use Rattle.model.specs.Record.{bytes16}
 use Rattle.model.specs.Sound.{number-ok}
 use Rattle.model.specs.Calls.{Call, list, choose, place, release, lent, refused, no-position, runs-in, refusals, insert, without, natural, range-bytes, over, position-number, done, unless, on-book}
+use Rattle.model.specs.OnRecord.{measured}
 use Rattle.model.specs.History.{trace, book-of-history}
 use Rattle.model.specs.Program.{block-bytes}
 use Rattle.model.specs.Homes.{bit}
@@ -49,7 +52,13 @@ left d cs = join-in (λ i. i .bottom ∷ i .top ∷ []) (intervals d (book-of-hi
 unfoldable score : Device → List ℕ → ℕ → ℕ → List ℕ
 score d t p y = pieces (placed t p y) (columns d) (intervals d []) ∷ stretch (placed t p y) (intervals d []) ∷ []
 
--- a row: which card, what the definitions give, and what MODEL 19.1 states
+-- connected sets, free cells and degree after some calls
+unfoldable three : Device → List Call → List ℤ
+three d cs =
+    let m = measured d (book-of-history d cs .final) [] in
+    m .answer ∷ m .free ∷ m .degree ∷ []
+
+-- a row: which card, what the definitions give, and what MODEL 19.1 or 19.2 states
 pub record Row : Type 0 where
   pub card : ℕ
   pub found : List ℤ
@@ -119,6 +128,16 @@ held-2-4 = place C-2 1 0 (pos 2) ∷ []
 held-2-6 : List Call
 held-2-6 = held-2-4 ++ (place C-2 2 0 (pos 4) ∷ [])
 
+-- MODEL 19.2: cards whose fragmentation is stated; the others are those of K3, K6 and K7
+K14 : Device
+K14 = card 2 (0 ∷ 1 ∷ 0 ∷ [])
+
+K15 : Device
+K15 = card 3 (0 ∷ 1 ∷ [])
+
+K16 : Device
+K16 = card 6 (0 ∷ 1 ∷ [])
+
 -- blocks that touch, and blocks apart
 K8-touching : List ℕ
 K8-touching = C-block 0 0 2 ++ C-block 0 2 4
@@ -128,6 +147,22 @@ K8-apart = C-block 0 0 2 ++ C-block 0 4 6
 
 K9-task : List ℕ
 K9-task = B-block 0 0 4
+
+-- 4–6 of column 0 is held, as on K12; the README's card, K13; all below 4, as on K15; all but the highest C and B, as on K16; 0–2, as on K17
+held-4-6 : List Call
+held-4-6 = place C-2 1 0 (pos 4) ∷ []
+
+two-tasks : List Call
+two-tasks = line-8 ++ (place C-4 8 0 (pos 0) ∷ [])
+
+held-0-4 : List Call
+held-0-4 = place C-4 1 0 (pos 0) ∷ []
+
+all-but-two : List Call
+all-but-two = place (C-block 0 0 10) 1 0 (pos 0) ∷ place B-5 2 1 (pos 0) ∷ []
+
+held-0-2 : List Call
+held-0-2 = place C-2 1 0 (pos 0) ∷ []
 
 -- each call that takes a task
 unfoldable with-task : List ℕ → List Call
@@ -160,16 +195,28 @@ table =
     ∷ row 9 (answers K2 (with-task K9-task)) minus-5
     ∷ row 10 (numbers (listed K3 line-8 C-4)) (numbers (0 ∷ 0 ∷ 2 ∷ 0 ∷ 0 ∷ 6 ∷ 2 ∷ 6 ∷ 1 ∷ 6 ∷ 2 ∷ 6 ∷ []))
     ∷ row 10 (answers K3 (line-8 ++ (list C-4 room ∷ choose C-4 ∷ []))) (pos 0 ∷ pos 3 ∷ pos 0 ∷ [])
+    ∷ row 11 (three K7 []) (numbers (1 ∷ 5 ∷ 0 ∷ []))
+    ∷ row 12 (three K7 held-4-6) (numbers (2 ∷ 4 ∷ 3333 ∷ []))
+    ∷ row 13 (three K3 []) (numbers (1 ∷ 12 ∷ 0 ∷ []))
+    ∷ row 13 (answers K3 two-tasks) (pos 0 ∷ pos 0 ∷ [])
+    ∷ row 13 (three K3 two-tasks) (numbers (2 ∷ 6 ∷ 2000 ∷ []))
+    ∷ row 14 (three K14 []) (numbers (2 ∷ 4 ∷ 3333 ∷ []))
+    ∷ row 15 (three K15 held-0-4) (numbers (1 ∷ 2 ∷ 0 ∷ []))
+    ∷ row 16 (three K16 all-but-two) (numbers (2 ∷ 2 ∷ 10000 ∷ []))
+    ∷ row 17 (three K6 []) (numbers (1 ∷ 1 ∷ 0 ∷ []))
+    ∷ row 17 (three K6 held-0-2) (numbers (0 ∷ 0 ∷ 0 ∷ []))
     ∷ []
 
--- THEOREM: the definitions give what MODEL 19.1 states, card by card
+-- THEOREM: the definitions give what MODEL 19.1 and 19.2 state, card by card
 pub small-cards : map (λ (r : Row). r .found) table ≡ map (λ (r : Row). r .stated) table
-unfolding K1 K2 K3 K4 K5 K6 K7 C-2 C-4 B-5 lines-4-6 line-8 K4-task K5-task held-2-4 held-2-6 K8-touching K8-apart K9-task with-task minus-5 table listed answers left score block-bytes
+unfolding K1 K2 K3 K4 K5 K6 K7 C-2 C-4 B-5 lines-4-6 line-8 K4-task K5-task held-2-4 held-2-6 K8-touching K8-apart K9-task with-task minus-5
+    K14 K15 K16 held-4-6 two-tasks held-0-4 all-but-two held-0-2 table listed answers left score three block-bytes
     all-below any-below sum-below join-below those-below all-in any-in sum-in join-in
     runs push maximal-runs
     height cells-in top-in columns kind cells top
     word lifted blocks block sized block-ok follows well-formed step
-    placed covers covered held free block-fits fits fits-at intervals
+    placed covers covered held free block-fits fits fits-at intervals holds-cell cell-free
+    touches met unmet classes sets neighbours across touch free-cells connected-sets degree measured
     ranges lies left-in remaining pieces holder home stretch judge better see climb choice chosen
     bytes16 number-ok lent refused no-position runs-in refusals insert without natural range-bytes over position-number done unless on-book
     trace book-of-history

@@ -87,6 +87,9 @@ pub const LIST_ROOM: usize = 24576;
 // MODEL 11.6: what choose multiplies a column by in its answer.
 pub const COLUMN_WEIGHT: u32 = 1024;
 
+// MODEL 22.4: all of it, in hundredths of a percent.
+pub const WHOLE_DEGREE: u32 = 10000;
+
 // MODEL 3.3: the kind of a column: logic (CLB), memory (BRAM) or multiplier (DSP).
 pub enum Kind {
     C,

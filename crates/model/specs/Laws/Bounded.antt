@@ -7,25 +7,10 @@ use mathlib.Core.List.{List, [], _∷_, _++_, map}
 use native.Mathlib.Omega.{arith}
 use Rattle.runs.specs.Laws.Tests.{lt-or-ge}
 use Rattle.model.specs.Bounded.{all-below, any-below, sum-below, In, all-in, any-in, sum-in}
+-- chains of two tests
+pub use Rattle.runs.specs.Laws.Tests.{and-to, and-of, or-to, or-of}
 
 -- ---- tests
-
-pub and-to : (a b : Bool) → (a && b) ≡ true → (a ≡ true) × (b ≡ true)
-and-to true b e = (refl, e)
-and-to false b e = absurd (false≢true e)
-
-pub and-of : (a b : Bool) → a ≡ true → b ≡ true → (a && b) ≡ true
-and-of true b p q = q
-and-of false b p q = p
-
-pub or-to : (a b : Bool) → (a || b) ≡ true → (a ≡ true) ⊎ (b ≡ true)
-or-to true b e = inl refl
-or-to false b e = inr e
-
-pub or-of : (a b : Bool) → (a ≡ true) ⊎ (b ≡ true) → (a || b) ≡ true
-or-of true b h = refl
-or-of false b (inl p) = absurd (false≢true p)
-or-of false b (inr q) = q
 
 -- chains of three to six tests
 pub and3-to : (a b c : Bool) → (a && b && c) ≡ true → (a ≡ true) × (b ≡ true) × (c ≡ true)

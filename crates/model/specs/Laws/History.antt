@@ -27,7 +27,7 @@ use Rattle.model.specs.Laws.Listing.{listing-names}
 use Rattle.model.specs.Laws.OnCells.{fitting-cells, nowhere-cells}
 use Rattle.model.specs.Laws.InOrder.{fitting-in-order}
 use Rattle.model.specs.Laws.RangeBytes.{read-ranges}
-use Rattle.model.specs.Laws.Step.{same-step, Fine, not-bad, list-done, list-none, choose-none}
+use Rattle.model.specs.Laws.Step.{same-step, same-fragmentation, Fine, not-bad, list-done, list-none, choose-none}
 use Rattle.model.specs.Laws.Kept.{within-new, kept, apart-cells}
 use Rattle.model.specs.Laws.Same.{same-records}
 
@@ -138,6 +138,7 @@ history r rows kinds e cs = after (on-records (new r rows kinds .state) cs) (boo
           alike = λ r′ e′ cs′ m.
               let h′ = from-new d r′ e′ cs′ in
               h .final ∙ same-records d (B .final) (book-of-history d cs′ .final) w (h′ .limits) m ∙ sym (h′ .final);
+          fragments = rw (h .final) (same-fragmentation d (B .final) w);
         }
 
 -- its last part by itself (MODEL 15.8)

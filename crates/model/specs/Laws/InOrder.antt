@@ -1,10 +1,11 @@
 -- MODEL 10.5 and 15.6: the fitting positions stand in order, by column and then by bottom, each once. Assumes nothing.
 use Prim.Native.Nat.{ℕ, zero, suc}
 use mathlib.Core.Path.{_≡_, refl}
-use mathlib.Core.Logic.{_⊎_, inl, inr}
+use mathlib.Core.Logic.{_⊎_, inl, inr, ⊎-elim}
 use mathlib.Core.Bool.{Bool, true, false, cond}
 use mathlib.Core.List.{List, [], _∷_, _++_, map, append-nil, append-assoc}
 use native.Mathlib.Omega.{arith}
+use Rattle.sets.specs.Laws.Lists.{in-append-to}
 use Rattle.model.specs.Bounded.{In, join-below, those-below}
 use Rattle.model.specs.Columns.{Device, columns, half-rows}
 use Rattle.model.specs.Book.{Book, fits}
@@ -18,14 +19,7 @@ record Ahead (p n : ℕ) (L : List Position) : Type 0 where
   before : (u : Position) → In u L → Before u (position p n)
 
 in-last : (u v : Position) (L : List Position) → In u (L ++ (v ∷ [])) → In u L ⊎ (u ≡ v)
-in-last u v [] (inl e) = inr e
-in-last u v [] (inr i) = absurd i
-in-last u v (w ∷ L) (inl e) = inl (inl e)
-in-last u v (w ∷ L) (inr i) = go (in-last u v L i)
-  where
-    go : In u L ⊎ (u ≡ v) → In u (w ∷ L) ⊎ (u ≡ v)
-    go (inl j) = inl (inr j)
-    go (inr e) = inr e
+in-last u v L m = ⊎-elim (λ k. inl k) (λ k. inr (⊎-elim (λ e. e) (λ z. absurd z) k)) (in-append-to u L (v ∷ []) m)
 
 order-last : (v : Position) (L : List Position) → InOrder L → ((u : Position) → In u L → Before u v) → InOrder (L ++ (v ∷ []))
 order-last v [] o b = (λ w i. absurd i, tt)

@@ -18,7 +18,9 @@ use Rattle.model.specs.Tasks.{step, sized}
 use Rattle.model.specs.Book.{Book, fits}
 use Rattle.model.specs.Listing.{range-of, ranges, Position, position, named, fitting}
 use Rattle.model.specs.Sound.{within}
+use Rattle.sets.specs.Laws.Lists.{in-map-to, in-map-of}
 use Rattle.model.specs.Laws.Bounded.{map-append}
+use Rattle.model.specs.Laws.Members.{in-join-to, in-join-of, those-to, those-of}
 use Rattle.model.specs.Laws.Parts.{join-cong}
 use Rattle.model.specs.Laws.Tasks.{sized-to}
 use Rattle.model.specs.Laws.Steps.{step-bounds, fits-steps}
@@ -140,84 +142,18 @@ module _ (d : Device) (b : Book) (t : List ℕ) (n : sized t ≡ true) where
 
 -- ---- what stands in a listing
 
-module _ {A : Type 0} (x : A) where
-  in-append-to : (K L : List A) → In x (K ++ L) → In x K ⊎ In x L
-  in-append-to [] L h = inr h
-  in-append-to (y ∷ K) L (inl q) = inl (inl q)
-  in-append-to (y ∷ K) L (inr h) = go (in-append-to K L h)
-    where
-      go : In x K ⊎ In x L → In x (y ∷ K) ⊎ In x L
-      go (inl i) = inl (inr i)
-      go (inr i) = inr i
-
-  in-append-of : (K L : List A) → In x K ⊎ In x L → In x (K ++ L)
-  in-append-of [] L (inl i) = absurd i
-  in-append-of [] L (inr i) = i
-  in-append-of (y ∷ K) L (inl (inl q)) = inl q
-  in-append-of (y ∷ K) L (inl (inr i)) = inr (in-append-of K L (inl i))
-  in-append-of (y ∷ K) L (inr i) = inr (in-append-of K L (inr i))
-
-  in-join-to : (n : ℕ) (f : ℕ → List A) → In x (join-below n f) → (i : ℕ) × (i < n) × In x (f i)
-  unfolding join-below
-  in-join-to zero f h = absurd h
-  in-join-to (suc n) f h = go (in-join-to n f) (in-append-to (join-below n f) (f n) h)
-    where
-      go : (In x (join-below n f) → (i : ℕ) × (i < n) × In x (f i)) → In x (join-below n f) ⊎ In x (f n) → (i : ℕ) × (i < suc n) × In x (f i)
-      go rest (inl k) = let (i, l, m) = rest k in (i, omega arith, m)
-      go rest (inr k) = (n, omega arith, k)
-
-  in-join-of : (n i : ℕ) (f : ℕ → List A) → i < n → In x (f i) → In x (join-below n f)
-  unfolding join-below
-  in-join-of zero i f l m = absurd (omega arith)
-  in-join-of (suc n) i f l m = in-append-of (join-below n f) (f n) (go (λ k. in-join-of n i f k m) (lt-or-ge i n))
-    where
-      go : (i < n → In x (join-below n f)) → (i < n) ⊎ (n ≤ i) → In x (join-below n f) ⊎ In x (f n)
-      go rest (inl k) = inl (rest k)
-      go rest (inr k) = let e : n ≡ i = omega arith in inr (rw e m)
-
-those-to : (y n : ℕ) (f : ℕ → Bool) → In y (those-below n f) → (y < n) × (f y ≡ true)
-unfolding those-below
-those-to y zero f h = absurd h
-those-to y (suc n) f h = go (those-to y n f) (in-append-to y (those-below n f) (cond (f n) (n ∷ []) []) h)
-  where
-    last : f n ≡ true → In y (n ∷ []) → (y < suc n) × (f y ≡ true)
-    last e (inl q) = (omega arith, ap f q ∙ e)
-
-    go : (In y (those-below n f) → (y < n) × (f y ≡ true)) → In y (those-below n f) ⊎ In y (cond (f n) (n ∷ []) []) → (y < suc n) × (f y ≡ true)
-    go rest (inl k) = let (l, e) = rest k in (omega arith, e)
-    go rest (inr k) = cond-ind (λ l. In y l → (y < suc n) × (f y ≡ true)) (f n) last (λ e i. absurd i) k
-
-those-of : (y n : ℕ) (f : ℕ → Bool) → y < n → f y ≡ true → In y (those-below n f)
-unfolding those-below
-those-of y zero f l e = absurd (omega arith)
-those-of y (suc n) f l e = in-append-of y (those-below n f) (cond (f n) (n ∷ []) []) (go (λ k. those-of y n f k e) (lt-or-ge y n))
-  where
-    go : (y < n → In y (those-below n f)) → (y < n) ⊎ (n ≤ y) → In y (those-below n f) ⊎ In y (cond (f n) (n ∷ []) [])
-    go rest (inl k) = inl (rest k)
-    go rest (inr k) = let q : y ≡ n = omega arith in let u : f n ≡ true = ap f (sym q) ∙ e in inr (rw u (inl q))
-
-map-to : {A B : Type 0} (f : A → B) (L : List A) (x : B) → In x (map f L) → (y : A) × In y L × (x ≡ f y)
-map-to f [] x h = absurd h
-map-to f (y ∷ L) x (inl q) = (y, inl refl, q)
-map-to f (y ∷ L) x (inr h) = let (z, i, q) = map-to f L x h in (z, inr i, q)
-
-map-of : {A B : Type 0} (f : A → B) (L : List A) (y : A) → In y L → In (f y) (map f L)
-map-of f [] y h = absurd h
-map-of f (z ∷ L) y (inl q) = inl (ap f q)
-map-of f (z ∷ L) y (inr h) = inr (map-of f L y h)
-
 -- THEOREM: the positions named are those of the device at which the task fits
 pub in-fitting : (d : Device) (b : Book) (t : List ℕ) (p y : ℕ) → In (position p y) (fitting d b t) ↔ ((p < columns d) × (y < half-rows d) × (fits d b t p y ≡ true))
 unfolding fitting
 in-fitting d b t p y = (
   λ h.
-      let (q, l, i) = in-join-to (position p y) (columns d) (λ p. map (position p) (those-below (half-rows d) (fits d b t p))) h in
-      let (z, j, e) = map-to (position q) (those-below (half-rows d) (fits d b t q)) (position p y) i in
-      let (k, f) = those-to z (half-rows d) (fits d b t q) j in
+      let (q, l, i) = in-join-to (columns d) (λ p. map (position p) (those-below (half-rows d) (fits d b t p))) (position p y) h in
+      let (z, j, e) = in-map-to (position q) (those-below (half-rows d) (fits d b t q)) (position p y) i in
+      let (k, f) = those-to (fits d b t q) (half-rows d) z j in
       let u : p ≡ q = ap (λ (x : Position). x .column) e in
       let v : y ≡ z = ap (λ (x : Position). x .bottom) e in
       (omega arith, omega arith, ap₂ (fits d b t) u v ∙ f),
   λ (l, k, f).
-      in-join-of (position p y) (columns d) p (λ p. map (position p) (those-below (half-rows d) (fits d b t p))) l
-      (map-of (position p) (those-below (half-rows d) (fits d b t p)) y (those-of y (half-rows d) (fits d b t p) k f)),
+      in-join-of (columns d) (λ p. map (position p) (those-below (half-rows d) (fits d b t p))) (position p y) p l
+      (in-map-of (position p) (those-below (half-rows d) (fits d b t p)) y (those-of (fits d b t p) (half-rows d) y k f)),
 )

@@ -1,11 +1,11 @@
--- MODEL 12 and 13: a call on any string of bytes, by the first refusal that holds; this is what each return of an exported function shows.
+-- MODEL 12, 13 and 22: a call on any string of bytes, by the first refusal that holds; this is what each return of an exported function shows.
 -- Assumes nothing.
 use Prim.Native.Nat.{ℕ, _≤_, _<_}
 use mathlib.Core.Path.{_≡_, refl, sym, ap, _∙_}
 use mathlib.Core.Logic.{_⊎_, inl, inr, _≢_}
 use mathlib.Core.Bool.{true, false}
 use mathlib.Core.Option.{Option, none, some}
-use mathlib.Core.List.{List, []}
+use mathlib.Core.List.{List, [], _∷_}
 use native.Mathlib.Decide.{ℕ-discrete}
 use borrow.Author.Tests.{eq-eqb, ne-eqb, lt-ltb, le-ltb}
 use lib.IntN.{pos, negℤ}
@@ -16,7 +16,7 @@ use Rattle.model.specs.Book.{Book, intervals}
 use Rattle.model.specs.Record.{record-of, device-of, book-of}
 use Rattle.model.specs.Sound.{sound}
 use Rattle.model.specs.Calls.{Call, list, choose, Outcome, refused, refusals, unless, lent, done, on-book}
-use Rattle.model.specs.OnRecord.{written, on-record, new, interval-count}
+use Rattle.model.specs.OnRecord.{wrong-length, not-sound, written, on-record, new, interval-count, Fragmentation, measured, unless-refused, fragmentation}
 use Rattle.model.specs.Laws.Bounded.{true-or-false}
 use Rattle.model.specs.Laws.WriteBack.{Bytes}
 use Rattle.model.specs.Laws.Sound.{sound-length, sound-record}
@@ -125,3 +125,31 @@ module _ (r : List ℕ) (c : ℕ) where
       → interval-count r c ≡ record { answer = pos (length (intervals (device-of r) (book-of r) c)); output = []; state = r }
   unfolding interval-count unless refused
   count-done s h = rw (eq-eqb (length r) record-size (sound-length r s), s, lt-ltb c (columns (device-of r)) h)
+
+-- ---- the fragmentation
+
+-- it answers − n and two zeros
+abbrev pub no-fragmentation : ℕ → List ℕ → Fragmentation
+no-fragmentation n r = record { answer = negℤ (pos n); free = pos 0; degree = pos 0; state = r }
+
+module _ (r : List ℕ) where
+  pub fragmentation-wrong-length : length r ≢ record-size → fragmentation r ≡ no-fragmentation 1 r
+  unfolding fragmentation unless-refused refused
+  fragmentation-wrong-length h = rw (ne-eqb (length r) record-size h)
+
+  pub fragmentation-not-sound : length r ≡ record-size → sound r ≡ false → fragmentation r ≡ no-fragmentation 2 r
+  unfolding fragmentation unless-refused refused
+  fragmentation-not-sound h s = rw (eq-eqb (length r) record-size h, s)
+
+  pub fragmentation-done : sound r ≡ true → fragmentation r ≡ measured (device-of r) (book-of r) r
+  unfolding fragmentation unless-refused refused
+  fragmentation-done s = rw (eq-eqb (length r) record-size (sound-length r s), s)
+
+-- THEOREM (MODEL 22.5): it leaves every byte of the record, whatever bytes it was lent
+pub fragmentation-leaves : (r : List ℕ) → fragmentation r .state ≡ r
+unfolding fragmentation measured unless-refused
+fragmentation-leaves r = go (refused (wrong-length r ∷ not-sound r ∷ []))
+  where
+    go : (o : Option ℕ) → unless-refused o r (measured (device-of r) (book-of r) r) .state ≡ r
+    go none = refl
+    go (some n) = refl

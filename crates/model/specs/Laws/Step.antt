@@ -21,12 +21,13 @@ use Rattle.model.specs.Choice.{Found, nothing, at, judge, chosen}
 use Rattle.model.specs.Record.{record-of}
 use Rattle.model.specs.Sound.{within}
 use Rattle.model.specs.Calls.{Call, list, choose, place, release, Outcome, Refusal, lent, refused, no-position, refusals, range-bytes, over, position-number, done, unless, on-book}
-use Rattle.model.specs.OnRecord.{written, on-record}
+use Rattle.model.specs.OnRecord.{written, on-record, measured, fragmentation}
 use Rattle.model.specs.Laws.Bounded.{clash}
 use Rattle.model.specs.Laws.Tasks.{sized-to}
 use Rattle.model.specs.Laws.Record.{record-length}
 use Rattle.model.specs.Laws.ReadBack.{device-of-record, book-of-record}
 use Rattle.model.specs.Laws.Sound.{record-sound}
+use Rattle.model.specs.Laws.OnRecord.{fragmentation-done}
 use Rattle.model.specs.Laws.Choice.{Chosen}
 use Rattle.model.specs.Laws.Ends.{chosen-at}
 use Rattle.model.specs.Laws.NoPosition.{chosen-nothing-iff}
@@ -35,6 +36,10 @@ use Rattle.model.specs.Laws.NoPosition.{chosen-nothing-iff}
 pub same-step : (d : Device) (b : Book) (c : Call) → within d b ≡ true → on-record (record-of d b) c ≡ written d (on-book d b c)
 unfolding on-record refused unless
 same-step d b c w = rw (record-length d b, record-sound d b w, device-of-record d b w, book-of-record d b w)
+
+-- THEOREM (MODEL 15.9): the fragmentation of the record of a book within the limits is that of the book
+pub same-fragmentation : (d : Device) (b : Book) → within d b ≡ true → fragmentation (record-of d b) ≡ measured d b (record-of d b)
+same-fragmentation d b w = fragmentation-done (record-of d b) (record-sound d b w) ∙ rw (device-of-record d b w, book-of-record d b w)
 
 -- ---- no call finds a bad record
 
