@@ -37,7 +37,7 @@ struct Joining {
 }
 
 // MODEL 8.3: interval i of a part.
-fn read(part: &[u8], i: usize) -> Interval
+pub fn read(part: &[u8], i: usize) -> Interval
     requires { ⌜ (length (now part) ≡ column-size) × (i < max-intervals) ⌝ }
     ensures { λ r. ⌜ ReadAt (now (part .entry)) i r ⌝ }
 {

@@ -5,20 +5,8 @@ pub mod walk; // one block along a list
 pub mod columns; // the ranges of one column
 pub mod output; // the whole listing
 
-ghost use Prim.Native.Nat.{_<_};
-ghost use lib.ListN.{length, getD};
-ghost use Rattle.words.specs.Words.{Widened};
-
 // Bottoms are kept this much above their value, so that a block far above the first gives no negative number.
 pub const LIFT: u32 = 2 * model::REACH;
 
 // A column has at most this many runs.
 pub const MAX_RUNS: usize = model::MAX_INTERVALS;
-
-// The byte at `at`, as a number.
-fn byte(s: &[u8], at: usize) -> usize
-    requires { ⌜ at < length (now s) ⌝ }
-    ensures { λ r. ⌜ Widened (getD (now (s .entry)) at 0) r ⌝ }
-{
-    words::wide(s[at]) as usize
-}

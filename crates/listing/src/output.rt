@@ -1,7 +1,7 @@
 // MODEL 10.5 and 12.6: the whole listing, the ranges of all columns, written to the output.
 use crate::MAX_RUNS;
-use crate::byte;
 use crate::columns::column_ranges;
+use words::byte;
 ghost use mathlib.Core.Path.{_≡_};
 ghost use Prim.Native.Nat.{_*_, _≤_};
 ghost use lib.ListN.{length};

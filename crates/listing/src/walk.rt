@@ -2,10 +2,10 @@
 use crate::LIFT;
 use crate::arrays::Runs;
 use crate::arrays::put;
-use crate::byte;
 use runs::Met;
 use runs::Range;
 use task::Block;
+use words::byte;
 ghost use mathlib.Core.Path.{_≡_};
 ghost use Prim.Native.Nat.{_*_, _≤_, _<_};
 ghost use lib.ListN.{length};

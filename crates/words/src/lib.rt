@@ -1,7 +1,7 @@
 // Numbers and bytes in a slice: numbers of two bytes (MODEL 4.3) read and written, a slice copied, wiped and compared.
 ghost use mathlib.Core.Path.{_≡_};
 ghost use Prim.Native.Nat.{_+_, _<_};
-ghost use lib.ListN.{length, replicate};
+ghost use lib.ListN.{length, getD, replicate};
 ghost use Rattle.model.specs.Limits.{words};
 ghost use Rattle.model.specs.Record.{bytes16};
 ghost use Rattle.model.specs.Parts.{splice};
@@ -15,6 +15,14 @@ pub fn wide(x: u8) -> u32
     ensures { λ r. ⌜ Widened x r ⌝ }
 {
     x as u32
+}
+
+// The byte at `at`, as a number to count or to index with.
+pub fn byte(s: &[u8], at: usize) -> usize
+    requires { ⌜ at < length (now s) ⌝ }
+    ensures { λ r. ⌜ Widened (getD (now (s .entry)) at 0) r ⌝ }
+{
+    wide(s[at]) as usize
 }
 
 // The number in the two bytes at `at`.

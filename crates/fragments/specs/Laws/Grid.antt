@@ -1,70 +1,29 @@
--- The runs of free cells of a card are groups of its free cells, and touch where their half rows meet: so sets of cells are counted by runs. Assumes nothing.
+-- MODEL 22.3: the runs of free cells of a card are groups of its free cells, and touch where their half rows meet: so sets of cells are counted by runs. Assumes nothing.
 use mathlib.Core.Path.{_≡_, refl, sym, ap, subst, _∙_}
 use mathlib.Core.Logic.{_⊎_, inl, inr, ⊎-elim, _↔_}
-use mathlib.Core.Bool.{true, _&&_, _||_}
 use mathlib.Core.List.{List}
 use Prim.Native.Nat.{ℕ, zero, suc, _+_, _-_, _*_, _/_, _%_, _≤_, _<_}
 use native.Mathlib.Nat.{div-add-mod, mod-lt, div-lt-iff-lt-mul, le-div-iff-mul-le, mul-le-mul-left}
 use native.Mathlib.Omega.{arith}
-use lib.Dec.{ltb, eqb}
 use lib.ListN.{length}
-use borrow.Author.Tests.{eq-eqb, eqb-true, lt-ltb, ltb-true}
 use Rattle.runs.specs.Laws.Tests.{lt-or-ge}
 use Rattle.runs.specs.Intervals.{Interval, Named, Apart}
-use Rattle.model.specs.Laws.Bounded.{and-to, and-of, or-to, or-of}
 use Rattle.sets.specs.Graph.{In, Distinct, Joined, sets, Step}
 use Rattle.sets.specs.Forest.{Alone, Below, Edge, merges}
-use Rattle.sets.specs.Sweep.{Shares, edge, edges}
-use Rattle.sets.specs.Cells.{Cell, cell, neighbours, across, touch, base, run-at, half-rows-at, beside, card-edges}
 use Rattle.sets.specs.Laws.Joined.{joined-refl, joined-step, joined-trans, joined-sym}
-use Rattle.sets.specs.Laws.Lists.{in-join, join-in-of}
 use Rattle.sets.specs.Laws.Groups.{Grouped}
-use Rattle.sets.specs.Laws.Indexed.{Within, named-place, place-named, place-low, place-rises, one-place, base-below, base-unique, base-find}
-use Rattle.sets.specs.Laws.Sweep.{edges-sound, edges-complete}
 use Rattle.sets.specs.Laws.Count.{sets-count}
-
--- ---- touching
-
-abbrev pub Neighbours : Cell → Cell → Type 0
-Neighbours x y = (x .column ≡ y .column) × ((suc (x .number) ≡ y .number) ⊎ (suc (y .number) ≡ x .number))
-
-abbrev pub Overlap : (ℕ → ℕ) → Cell → Cell → Type 0
-Overlap h x y = (h (x .column) * x .number < h (y .column) * suc (y .number)) × (h (y .column) * y .number < h (x .column) * suc (x .number))
-
-abbrev pub Across : (ℕ → ℕ) → Cell → Cell → Type 0
-Across h x y = ((suc (x .column) ≡ y .column) ⊎ (suc (y .column) ≡ x .column)) × Overlap h x y
-
-module _ (h : ℕ → ℕ) (x y : Cell) where
-  pub touch-to : touch h x y ≡ true → Neighbours x y ⊎ Across h x y
-  unfolding touch neighbours across
-  touch-to t = ⊎-elim (λ n. inl (near (and-to _ _ n))) (λ a. inr (far (and-to _ _ a))) (or-to _ _ t)
-    where
-      either : (a b c d : ℕ) → eqb a b || eqb c d ≡ true → (a ≡ b) ⊎ (c ≡ d)
-      either a b c d e = ⊎-elim (λ p. inl (eqb-true a b p)) (λ p. inr (eqb-true c d p)) (or-to (eqb a b) (eqb c d) e)
-
-      near : (eqb (x .column) (y .column) ≡ true) × ((eqb (suc (x .number)) (y .number) || eqb (suc (y .number)) (x .number)) ≡ true) → Neighbours x y
-      near n = (eqb-true (x .column) (y .column) (n .0), either (suc (x .number)) (y .number) (suc (y .number)) (x .number) (n .1))
-
-      far : ((eqb (suc (x .column)) (y .column) || eqb (suc (y .column)) (x .column)) ≡ true)
-          × ((ltb (h (x .column) * x .number) (h (y .column) * suc (y .number)) && ltb (h (y .column) * y .number) (h (x .column) * suc (x .number))) ≡ true) → Across h x y
-      far a =
-          let o : (ltb (h (x .column) * x .number) (h (y .column) * suc (y .number)) ≡ true)
-          × (ltb (h (y .column) * y .number) (h (x .column) * suc (x .number)) ≡ true) = and-to _ _ (a .1) in
-          (either (suc (x .column)) (y .column) (suc (y .column)) (x .column) (a .0), (ltb-true _ _ (o .0), ltb-true _ _ (o .1)))
-
-  pub touch-of : Neighbours x y ⊎ Across h x y → touch h x y ≡ true
-  unfolding touch neighbours across
-  touch-of (inl n) = or-of _ _ (inl (and-of _ _ (eq-eqb _ _ (n .0)) (or-of _ _ (⊎-elim (λ e. inl (eq-eqb _ _ e)) (λ e. inr (eq-eqb _ _ e)) (n .1)))))
-  touch-of (inr a) =
-      or-of (neighbours x y) _ (inr (and-of _ _ (or-of _ _ (⊎-elim (λ e. inl (eq-eqb _ _ e)) (λ e. inr (eq-eqb _ _ e)) (a .0))) (and-of _ _ (lt-ltb _ _ (a .1 .0)) (lt-ltb _ _ (a .1 .1)))))
+use Rattle.model.specs.Fragments.{Cell, cell, touch}
+use Rattle.model.specs.Laws.Fragments.{Neighbours, Overlap, Across, touch-to, touch-of, touch-both}
+use Rattle.model.specs.Laws.Members.{in-join-to, in-join-of}
+use Rattle.fragments.specs.Sweep.{Shares, edge, edges}
+use Rattle.fragments.specs.Nodes.{base, run-at, half-rows-at, beside, card-edges}
+use Rattle.fragments.specs.Laws.Indexed.{Within, named-place, place-named, place-low, place-rises, one-place, base-below, base-unique, base-find}
+use Rattle.fragments.specs.Laws.Sweep.{edges-sound, edges-complete}
 
 swap : {A B : Type 0} → A ⊎ B → B ⊎ A
 swap (inl a) = inr a
 swap (inr b) = inl b
-
-pub touch-both : (h : ℕ → ℕ) (x y : Cell) → touch h x y ≡ true → touch h y x ≡ true
-touch-both h x y t =
-    touch-of h y x (⊎-elim (λ n. inl (sym (n .0), swap (n .1))) (λ a. inr (swap (a .0), (a .1 .1, a .1 .0))) (touch-to h x y t))
 
 -- ---- two runs whose half rows meet have cells that do
 
@@ -110,7 +69,7 @@ module _ (C : ℕ) (h : ℕ → ℕ) (pos : (c : ℕ) → 1 ≤ h c) (R : ℕ �
   edges-next : (e : ℕ × ℕ) → In e (card-edges h R C) → Next (e .0) (e .1)
   unfolding card-edges
   edges-next e m =
-      let (c, l, q) = in-join (C - 1) (λ c. edges (beside h R c)) e m in
+      let (c, l, q) = in-join-to (C - 1) (λ c. edges (beside h R c)) e m in
       let (i, j, p, li, lj, s) = edges-sound (beside h R c) e q in
       (c, i, j, omega arith, li, lj, ap (λ (z : ℕ × ℕ). z .0) p, ap (λ (z : ℕ × ℕ). z .1) p, s)
 
@@ -122,7 +81,7 @@ module _ (C : ℕ) (h : ℕ → ℕ) (pos : (c : ℕ) → 1 ≤ h c) (R : ℕ �
   next-edges g k n =
       let (c, i, j, l, li, lj, eg, ek, s) = n in
       let m : In (edge (beside h R c) i j) (edges (beside h R c)) = edges-complete (beside h R c) (rises c) (rises (suc c)) i j li lj s in
-      join-in-of (C - 1) (λ c. edges (beside h R c)) (g, k) c (omega arith) (rw (eg, ek) m)
+      in-join-of (C - 1) (λ c. edges (beside h R c)) (g, k) c (omega arith) (rw (eg, ek) m)
 
   edges-below : Below (base R C) (card-edges h R C)
   edges-below e m =

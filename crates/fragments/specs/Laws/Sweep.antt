@@ -1,4 +1,4 @@
--- The sweep finds exactly the pairs that share a half row. Assumes nothing.
+-- MODEL 22.1: the sweep finds exactly the pairs that share a half row. Assumes nothing.
 use mathlib.Core.Path.{_≡_, refl, sym, ap, _∙_}
 use mathlib.Core.Logic.{_⊎_, inl, inr, ⊎-elim}
 use mathlib.Core.Bool.{Bool, true, false, cond, not, _&&_, true≢false}
@@ -11,20 +11,17 @@ use lib.ListN.{length, replicate, length-replicate}
 use borrow.Author.Tests.{ltb-true, lt-ltb, le-ltb, le-leb, lt-leb, leb-true, leb-false}
 use Rattle.runs.specs.Laws.Tests.{cond-ind, lt-or-ge}
 use Rattle.runs.specs.Intervals.{Interval}
+use Rattle.model.specs.Laws.Bounded.{and-to}
 use Rattle.sets.specs.Graph.{In}
-use Rattle.sets.specs.Forest.{Falls, at, unions, merges, union, root, Below}
+use Rattle.sets.specs.Forest.{Falls, at, unions, merges, union, root, Below, Joins}
 use Rattle.sets.specs.Laws.Lists.{in-right, each-append}
 use Rattle.sets.specs.Laws.Unions.{unions-forest, length-unions, unions-append, merges-append}
-use Rattle.sets.specs.Sweep.{Sides, Shares, shares, edge, edge-if, swept, edges-from, edges, Joins, Sweeping, Alike, Room}
-
-and-true : (a b : Bool) → a && b ≡ true → (a ≡ true) × (b ≡ true)
-and-true true b e = (refl, e)
-and-true false b e = absurd (true≢false (sym e))
+use Rattle.fragments.specs.Sweep.{Sides, Shares, shares, edge, edge-if, swept, edges-from, edges, Sweeping, Alike}
 
 pub shares-to : (x y : Interval) → shares x y ≡ true → Shares x y
 unfolding shares
 shares-to x y e =
-    let h : (ltb (x .bottom) (y .top) ≡ true) × (ltb (y .bottom) (x .top) ≡ true) = and-true _ _ e in
+    let h : (ltb (x .bottom) (y .top) ≡ true) × (ltb (y .bottom) (x .top) ≡ true) = and-to _ _ e in
     (ltb-true (x .bottom) (y .top) (h .0), ltb-true (y .bottom) (x .top) (h .1))
 
 pub shares-of : (x y : Interval) → Shares x y → shares x y ≡ true
@@ -44,7 +41,7 @@ module _ (S : Sides) where
   swept-sound zero i j = λ e m. absurd m
   swept-sound (suc f) i j =
       cond-ind AllRight (ltb i (S .lefts) && ltb j (S .rights))
-      (λ t. each-append Right (edge-if (shares (S .left i) (S .right j)) (edge S i j)) _ (one (and-true _ _ t))
+      (λ t. each-append Right (edge-if (shares (S .left i) (S .right j)) (edge S i j)) _ (one (and-to _ _ t))
       (cond-ind AllRight (leb (S .left i .top) (S .right j .top)) (λ _. swept-sound f (suc i) j) (λ _. swept-sound f i (suc j))))
       (λ t e m. absurd m)
     where
@@ -129,7 +126,7 @@ module _ (S : Sides) where
       go : (f : ℕ) → (S .lefts ≤ i) ⊎ (S .rights ≤ j) → swept S f i j ≡ []
       go zero g = refl
       go (suc f) (inl g) = rw (le-ltb i (S .lefts) g)
-      go (suc f) (inr g) = rw (le-ltb j (S .rights) g) (cond-ind (λ E. E ≡ []) (ltb i (S .lefts) && false) (λ e. absurd (true≢false (sym (and-true (ltb i (S .lefts)) false e .1)))) (λ e. refl))
+      go (suc f) (inr g) = rw (le-ltb j (S .rights) g) (cond-ind (λ E. E ≡ []) (ltb i (S .lefts) && false) (λ e. absurd (true≢false (sym (and-to (ltb i (S .lefts)) false e .1)))) (λ e. refl))
 
 -- ---- joins
 
@@ -263,13 +260,3 @@ swept-forest S P Q r f l m j = (
     below e k =
         let (x, y, q, lx, ly, s) = edges-sound S e k in
         rw q (omega arith, omega arith)
-
--- ---- a start
-
-zero-at : (n k : ℕ) → at (replicate n 0) k ≡ 0
-zero-at zero k = refl
-zero-at (suc n) zero = refl
-zero-at (suc n) (suc k) = zero-at n k
-
-pub zeros-room : (n : ℕ) → n ≤ 65536 → Room (replicate n 0)
-zeros-room n l = record { falls = λ k. omega (arith, zero-at n k); few = omega (arith, length-replicate {A = ℕ} n 0) }

@@ -1,0 +1,94 @@
+-- `fragments::connected::join_all` meets its contract. Assumes nothing.
+use Prim.Native.Nat.{_+_, _-_, _<_}
+use Rattle.model.specs.Columns.{columns as columns-of}
+use Rattle.model.specs.Record.{device-of}
+use Rattle.model.specs.Laws.Sound.{sound-length}
+use Rattle.fragments.specs.OnBytes.{Walking}
+use Rattle.fragments.specs.Laws.OnBytes.{few-columns, columns-byte, count-few, base-few, walking-start, walking-room, walking-on, walking-end}
+use native.Mathlib.Omega.{arith}
+use Rattle.fragments.proofs.connected.join_all.Statement.{statement}
+use Rattle.fragments.proofs.connected.join_all.Tie as tie
+
+abbrev Inv-loop : tie.InvT-loop
+Inv-loop parents₀ «record» columns joins₀ base₀ c₀ parents joins base c = Walking «record» parents₀ parents joins base c
+
+abbrev μ-loop : tie.MeasureT-loop
+μ-loop parents₀ «record» columns joins₀ base₀ c₀ parents joins base c = columns - c
+
+byte-requires : tie.Need-byte-requires Inv-loop μ-loop
+byte-requires c κs = omega (arith, sound-length (c .before .before .args .«record» .now) (c .before .before .pre .1))
+
+loop-holds : tie.Need-loop-holds Inv-loop μ-loop
+loop-holds c = walking-start (c .before .before .before .args .«record» .now) (c .before .before .before .pre .1) (c .before .before .before .args .parents .now) (c .before .before .before .pre .0 .falls)
+
+add-loop : tie.Need-add-loop Inv-loop μ-loop
+add-loop c = omega (arith, few-columns (c .before .before .before .before .args .«record» .now) (c .before .before .before .before .pre .1), c .loop .inv .on)
+
+join-next-requires : tie.Need-join-next-requires Inv-loop μ-loop
+join-next-requires c κs =
+    let w = c .before .before .loop .inv in
+    let l : c .before .before .loop .c + 1 < columns-of (device-of (c .before .before .before .before .before .before .args .«record» .now)) = omega (arith, columns-byte (c .before .before .before .before .before .before .args .«record» .now) (c .before .before .before .before .before .before .pre .1) (c .before .before .before .byte .result) (c .before .before .before .byte .ensures .is)) in (
+      record { falls = w .falls; few = omega (arith, w .size, c .before .before .before .before .before .before .pre .0 .few) },
+      c .before .before .before .before .before .before .pre .1,
+      l,
+      walking-room (c .before .before .before .before .before .before .args .«record» .now) (c .before .before .before .before .before .before .pre .1) (c .before .before .before .before .before .before .args .parents .now) (c .before .before .loop .parents) (c .before .before .loop .joins) (c .before .before .loop .base) (c .before .before .loop .c) w l (c .before .before .before .before .before .before .pre .2),
+    )
+
+add-joins : tie.Need-add-joins Inv-loop μ-loop
+add-joins c =
+    let r = c .before .before .before .before .before .before .before .before .before .args .«record» .now in
+    let s = c .before .before .before .before .before .before .before .before .before .pre .1 in
+    let l : c .before .before .before .before .before .loop .c + 1 < columns-of (device-of r) = omega (arith, columns-byte (c .before .before .before .before .before .before .before .before .before .args .«record» .now) (c .before .before .before .before .before .before .before .before .before .pre .1) (c .before .before .before .before .before .before .byte .result) (c .before .before .before .before .before .before .byte .ensures .is)) in
+    omega (arith, c .before .before .before .before .before .loop .inv .few, few-columns r s, c .before .before .join-next .ensures .1, count-few r s (c .before .before .before .before .before .loop .c) (omega (arith, few-columns r s)), count-few r s (c .before .before .before .before .before .loop .c + 1) (omega (arith, few-columns r s)))
+
+add-byte : tie.Need-add-byte Inv-loop μ-loop
+add-byte c = omega (arith, few-columns (c .before .before .before .before .before .before .before .before .before .args .«record» .now) (c .before .before .before .before .before .before .before .before .before .pre .1), c .before .before .before .before .before .loop .inv .on)
+
+byte-requires-2 : tie.Need-byte-requires-2 Inv-loop μ-loop
+byte-requires-2 c κs = omega (arith, few-columns (c .before .before .before .before .before .before .before .before .before .args .«record» .now) (c .before .before .before .before .before .before .before .before .before .pre .1), c .before .before .before .before .before .loop .inv .on, sound-length (c .before .before .before .before .before .before .before .before .before .args .«record» .now) (c .before .before .before .before .before .before .before .before .before .pre .1))
+
+add-base : tie.Need-add-base Inv-loop μ-loop
+add-base c =
+    let r = c .before .before .before .before .before .before .before .before .before .before .args .«record» .now in
+    let s = c .before .before .before .before .before .before .before .before .before .before .pre .1 in
+    omega (arith, c .before .before .before .before .before .before .loop .inv .from, c .before .before .before .before .before .before .loop .inv .on, few-columns r s, base-few r s (c .before .before .before .before .before .before .loop .c) (omega (arith, few-columns r s, c .before .before .before .before .before .before .loop .inv .on)), c .byte2 .ensures .small)
+
+add-c : tie.Need-add-c Inv-loop μ-loop
+add-c c = omega (arith, few-columns (c .before .before .before .before .before .before .before .before .before .before .args .«record» .now) (c .before .before .before .before .before .before .before .before .before .before .pre .1), c .before .before .before .before .before .before .loop .inv .on)
+
+loop-less : tie.Need-loop-less Inv-loop μ-loop
+loop-less c = omega arith
+
+loop-again : tie.Need-loop-again Inv-loop μ-loop
+loop-again c =
+    let w = c .before .before .before .before .before .before .loop .inv in
+    let l : c .before .before .before .before .before .before .loop .c + 1 < columns-of (device-of (c .before .before .before .before .before .before .before .before .before .before .args .«record» .now)) = omega (arith, columns-byte (c .before .before .before .before .before .before .before .before .before .before .args .«record» .now) (c .before .before .before .before .before .before .before .before .before .before .pre .1) (c .before .before .before .before .before .before .before .byte .result) (c .before .before .before .before .before .before .before .byte .ensures .is)) in
+    rw (c .byte2 .ensures .is)
+    (walking-on (c .before .before .before .before .before .before .before .before .before .before .args .«record» .now) (c .before .before .before .before .before .before .before .before .before .before .pre .1) (c .before .before .before .before .before .before .before .before .before .before .args .parents .now) (c .before .before .before .before .before .before .loop .parents) (c .before .before .before .before .before .before .loop .joins) (c .before .before .before .before .before .before .loop .base) (c .before .before .before .before .before .before .loop .c) w l (c .before .before .before .before .before .before .before .before .before .before .pre .2)
+    (c .before .before .before .join-next .last .0) (c .before .before .before .join-next .result) (c .before .before .before .join-next .ensures .1) (c .before .before .before .join-next .ensures .0))
+
+same-length : tie.Need-same-length Inv-loop μ-loop
+same-length c = c .before .loop .inv .size
+
+returns : tie.Need-returns Inv-loop μ-loop
+returns c = walking-end (c .before .before .before .before .before .args .«record» .now) (c .before .before .before .before .before .pre .1) (c .before .before .before .before .before .args .parents .now) (c .before .loop .parents) (c .before .loop .joins) (c .before .loop .base) (c .before .loop .c) (c .before .loop .inv) (omega (arith, columns-byte (c .before .before .before .before .before .args .«record» .now) (c .before .before .before .before .before .pre .1) (c .before .before .byte .result) (c .before .before .byte .ensures .is)))
+
+pub join-all-spec : {M : Type 1} → statement M
+join-all-spec =
+    tie.close
+    (tie.spec
+    Inv-loop
+    μ-loop
+    byte-requires
+    loop-holds
+    add-loop
+    join-next-requires
+    add-joins
+    add-byte
+    byte-requires-2
+    add-base
+    add-c
+    loop-less
+    loop-again
+    same-length
+    returns)

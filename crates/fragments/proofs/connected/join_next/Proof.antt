@@ -1,0 +1,102 @@
+-- `fragments::connected::join_next` meets its contract. Assumes nothing.
+use Prim.Native.Nat.{_+_}
+use Rattle.model.specs.Laws.Sound.{sound-length}
+use Rattle.fragments.specs.Laws.OnBytes.{few-columns, part-with}
+use native.Mathlib.Omega.{arith}
+use borrow.Author.Needs.{needs}
+use Rattle.fragments.proofs.connected.join_next.Statement.{statement}
+use Rattle.fragments.proofs.connected.join_next.Tie as tie
+
+add-next : tie.Need-add-next
+add-next c = omega (arith, few-columns (c .before .before .args .«record» .now) (c .before .before .pre .1))
+
+mul-a : tie.Need-mul-a
+mul-a c = omega (arith, few-columns (c .before .before .args .«record» .now) (c .before .before .pre .1))
+
+add-a : tie.Need-add-a
+add-a c = omega (arith, few-columns (c .before .before .args .«record» .now) (c .before .before .pre .1))
+
+add-a-end : tie.Need-add-a-end
+add-a-end c = omega (arith, few-columns (c .before .before .args .«record» .now) (c .before .before .pre .1))
+
+mul-b : tie.Need-mul-b
+mul-b c = omega (arith, few-columns (c .before .before .args .«record» .now) (c .before .before .pre .1))
+
+add-b : tie.Need-add-b
+add-b c = omega (arith, few-columns (c .before .before .args .«record» .now) (c .before .before .pre .1))
+
+add-b-end : tie.Need-add-b-end
+add-b-end c = omega (arith, few-columns (c .before .before .args .«record» .now) (c .before .before .pre .1))
+
+add-byte : tie.Need-add-byte
+add-byte c = omega (arith, few-columns (c .before .before .args .«record» .now) (c .before .before .pre .1))
+
+byte-requires : tie.Need-byte-requires
+byte-requires c κs = omega (arith, few-columns (c .before .before .args .«record» .now) (c .before .before .pre .1), sound-length (c .before .before .args .«record» .now) (c .before .before .pre .1))
+
+add-byte-2 : tie.Need-add-byte-2
+add-byte-2 c = omega (arith, few-columns (c .before .before .before .args .«record» .now) (c .before .before .before .pre .1))
+
+byte-requires-2 : tie.Need-byte-requires-2
+byte-requires-2 c κs = omega (arith, few-columns (c .before .before .before .args .«record» .now) (c .before .before .before .pre .1), sound-length (c .before .before .before .args .«record» .now) (c .before .before .before .pre .1))
+
+sub-sweep : tie.Need-sub-sweep
+sub-sweep c = search needs
+
+part-sweep-start : tie.Need-part-sweep-start
+part-sweep-start c = search needs
+
+part-sweep-end : tie.Need-part-sweep-end
+part-sweep-end c = omega (arith, few-columns (c .before .before .before .before .before .args .«record» .now) (c .before .before .before .before .before .pre .1), sound-length (c .before .before .before .before .before .args .«record» .now) (c .before .before .before .before .before .pre .1))
+
+sub-sweep-2 : tie.Need-sub-sweep-2
+sub-sweep-2 c = search needs
+
+part-sweep-start-2 : tie.Need-part-sweep-start-2
+part-sweep-start-2 c = search needs
+
+part-sweep-end-2 : tie.Need-part-sweep-end-2
+part-sweep-end-2 c = omega (arith, few-columns (c .before .before .before .before .before .before .args .«record» .now) (c .before .before .before .before .before .before .pre .1), sound-length (c .before .before .before .before .before .before .args .«record» .now) (c .before .before .before .before .before .before .pre .1))
+
+sweep-requires : tie.Need-sweep-requires
+sweep-requires c κs =
+    let r = c .before .before .before .before .before .before .before .args .«record» .now in
+    let s = c .before .before .before .before .before .before .before .pre .1 in (
+      c .before .before .before .before .before .before .before .pre .0,
+      part-with r s (c .before .before .before .before .before .before .before .args .c) (c .before .before .before .before .byte .result) (omega (arith, few-columns r s)) (c .before .before .before .before .byte .ensures .is),
+      part-with r s (c .before .before .before .before .before .before .before .args .c + 1) (c .before .before .before .byte2 .result) (omega (arith, few-columns r s)) (c .before .before .before .byte2 .ensures .is),
+      omega (arith, c .before .before .before .before .byte .ensures .is, c .before .before .before .byte2 .ensures .is, c .before .before .before .before .before .before .before .pre .3),
+    )
+
+same-length : tie.Need-same-length
+same-length c = search needs
+
+returns : tie.Need-returns
+returns c =
+    let j = rw (c .before .before .before .before .before .before .before .byte .ensures .is, c .before .before .before .before .before .before .byte2 .ensures .is) at (c .before .before .sweep .ensures) in
+    j
+
+pub join-next-spec : {M : Type 1} → statement M
+join-next-spec =
+    tie.close
+    (tie.spec
+    add-next
+    mul-a
+    add-a
+    add-a-end
+    mul-b
+    add-b
+    add-b-end
+    add-byte
+    byte-requires
+    add-byte-2
+    byte-requires-2
+    sub-sweep
+    part-sweep-start
+    part-sweep-end
+    sub-sweep-2
+    part-sweep-start-2
+    part-sweep-end-2
+    sweep-requires
+    same-length
+    returns)
