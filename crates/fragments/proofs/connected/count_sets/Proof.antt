@@ -5,7 +5,7 @@ use native.Mathlib.Omega.{arith}
 use lib.Dec.{lit≤}
 use Rattle.sets.specs.Forest.{Alone}
 use Rattle.sets.specs.Laws.Unions.{zeros-room}
-use Rattle.fragments.specs.Laws.OnBytes.{fragments-bytes}
+use Rattle.fragments.specs.Laws.OnBytes.{sets-bytes}
 use borrow.Author.Needs.{needs}
 use Rattle.fragments.proofs.connected.count_sets.Statement.{statement}
 use Rattle.fragments.proofs.connected.count_sets.Tie as tie
@@ -29,10 +29,10 @@ cast-result : tie.Need-cast-result
 cast-result c = search needs
 
 sub-result : tie.Need-sub-result
-sub-result c = omega (arith, fragments-bytes (c .before .before .before .before .before .before .before .before .args .«record» .now) (c .before .before .before .before .before .before .before .before .pre) (c .before .before .before .before .set-apart .last .0) (c .before .join-all .last .0) (c .before .join-all .result) (subst (λ (m : ℕ). Alone m (c .before .before .before .before .set-apart .last .0)) (c .before .before .before .before .before .before .total .ensures .0) (c .before .before .before .before .set-apart .ensures .0)) (c .before .join-all .ensures), c .before .before .before .before .before .before .total .ensures .0)
+sub-result c = omega (arith, sets-bytes (c .before .before .before .before .before .before .before .before .args .«record» .now) (c .before .before .before .before .before .before .before .before .pre) (c .before .before .before .before .set-apart .last .0) (c .before .join-all .last .0) (c .before .join-all .result) (subst (λ (m : ℕ). Alone m (c .before .before .before .before .set-apart .last .0)) (c .before .before .before .before .before .before .total .ensures .0) (c .before .before .before .before .set-apart .ensures .0)) (c .before .join-all .ensures), c .before .before .before .before .before .before .total .ensures .0)
 
 returns : tie.Need-returns
-returns c = (omega (arith, fragments-bytes (c .before .before .before .before .before .before .before .before .args .«record» .now) (c .before .before .before .before .before .before .before .before .pre) (c .before .before .before .before .set-apart .last .0) (c .before .join-all .last .0) (c .before .join-all .result) (subst (λ (m : ℕ). Alone m (c .before .before .before .before .set-apart .last .0)) (c .before .before .before .before .before .before .total .ensures .0) (c .before .before .before .before .set-apart .ensures .0)) (c .before .join-all .ensures), c .before .before .before .before .before .before .total .ensures .0), omega (arith, c .before .before .before .before .before .before .total .ensures .1))
+returns c = (omega (arith, sets-bytes (c .before .before .before .before .before .before .before .before .args .«record» .now) (c .before .before .before .before .before .before .before .before .pre) (c .before .before .before .before .set-apart .last .0) (c .before .join-all .last .0) (c .before .join-all .result) (subst (λ (m : ℕ). Alone m (c .before .before .before .before .set-apart .last .0)) (c .before .before .before .before .before .before .total .ensures .0) (c .before .before .before .before .set-apart .ensures .0)) (c .before .join-all .ensures), c .before .before .before .before .before .before .total .ensures .0), omega (arith, c .before .before .before .before .before .before .total .ensures .1))
 
 pub count-sets-spec : {M : Type 1} → statement M
 count-sets-spec =

@@ -13,7 +13,7 @@ use Rattle.fragments.proofs.connected.total.Statement.{statement}
 use Rattle.fragments.proofs.connected.total.Tie as tie
 
 abbrev Inv-loop : tie.InvT-loop
-Inv-loop «record» columns n₀ c₀ n c = (c ≤ columns) × (n ≡ base (runs-of card) c)
+Inv-loop «record» columns n₀ c₀ n c = (c ≤ columns) × (n ≡ base (runs-of «record») c)
 
 abbrev μ-loop : tie.MeasureT-loop
 μ-loop «record» columns n₀ c₀ n c = columns - c
