@@ -5,3 +5,4 @@ pub mod Place
 pub mod Positions
 pub mod Release
 pub mod Intervals
+pub mod Fragments

@@ -5,7 +5,7 @@ use mathlib.Core.Path.{_≡_}
 use mathlib.Core.Bool.{true, false}
 use mathlib.Core.List.{List, []}
 use lib.Dec.{leb}
-use lib.IntN.{ℤ}
+use lib.IntN.{ℤ, pos}
 use lib.ListN.{length}
 use Rattle.model.specs.Limits.{max-running}
 use Rattle.model.specs.Columns.{columns}
@@ -13,7 +13,7 @@ use Rattle.model.specs.Book.{fits-at}
 use Rattle.model.specs.Record.{device-of, book-of}
 use Rattle.model.specs.Sound.{sound, number-ok}
 use Rattle.model.specs.Calls.{Call, list, choose, place, release, Outcome, lent, runs-in}
-use Rattle.model.specs.OnRecord.{on-record, interval-count, view}
+use Rattle.model.specs.OnRecord.{on-record, interval-count, view, Fragmentation, fragmentation}
 use Rattle.listing.specs.Columns.{Given}
 use Rattle.card.specs.declared.Check.{Check}
 use Rattle.card.specs.declared.Check.the-variants.{Pass, Refuse}
@@ -28,6 +28,13 @@ pub record Leaves (o : Outcome (List ℕ)) (answer : ℤ) (bytes output : List �
 abbrev pub Changes : Outcome (List ℕ) → ℤ → List ℕ → Type 0
 Changes o answer bytes = Leaves o answer bytes []
 
+-- MODEL 21.1 and 22.5: what the fragmentation leaves is m's, its answer, the two numbers that it writes, and every byte of the record
+pub record Tells (m : Fragmentation) (answer free degree : ℤ) (bytes : List ℕ) : Type 0 where
+  pub answer-is : answer ≡ m .answer
+  pub free-is : free ≡ m .free
+  pub degree-is : degree ≡ m .degree
+  pub record-is : bytes ≡ m .state
+
 -- ---- what the checks before a call answer: that they passed, or a refusal, as a number of the table (MODEL 13.1 and 21.6)
 
 -- MODEL 13.3: the call c on the record r answers z and changes nothing
@@ -38,10 +45,14 @@ Refused r z c = on-record r c ≡ record { answer = z; output = lent c; state = 
 abbrev pub Uncounted : List ℕ → ℕ → ℤ → Type 0
 Uncounted r k z = (interval-count r k ≡ record { answer = z; output = []; state = r }) × ([] ≡ view r k)
 
+-- MODEL 22.6: the fragmentation answers z and two zeros
+abbrev pub Unmeasured : List ℕ → ℤ → Type 0
+Unmeasured r z = fragmentation r ≡ record { answer = z; free = pos 0; degree = pos 0; state = r }
+
 -- MODEL 13.1, −1 and −2: a refusal of the record is that of every call on it
 abbrev pub ChecksRecord : List ℕ → Check → Type 0
 ChecksRecord r Pass = sound r ≡ true
-ChecksRecord r (Refuse z) = ((c : Call) → Refused r z c) × ((k : ℕ) → Uncounted r k z)
+ChecksRecord r (Refuse z) = ((c : Call) → Refused r z c) × ((k : ℕ) → Uncounted r k z) × Unmeasured r z
 
 -- the call has the task t
 abbrev pub HasTask : List ℕ → Call → Type 0

@@ -1,4 +1,4 @@
-// MODEL 12, 13 and 16: the calls on one card's record, for the match server. All but the view have the C calling form (MODEL 16.4).
+// MODEL 12, 13, 16 and 22: the calls on one card's record, for the match server. All but the view have the C calling form (MODEL 16.4).
 // Each contract fixes the answer and every lent byte by the model's call on these bytes (model/specs/OnRecord.antt), refused or not (MODEL 21.1).
 // In a contract `.entry` is what lies behind a reference as the call starts, and `.exit` as it returns. What is lent as `&` is kept by its type.
 // `on-record` is also the step of the theorem about whole histories (model/specs/Laws/History.antt).
@@ -15,9 +15,9 @@ ghost use Rattle.model.specs.Book.{fits-at};
 ghost use Rattle.model.specs.Record.{device-of, book-of};
 ghost use Rattle.model.specs.Sound.{sound, number-ok};
 ghost use Rattle.model.specs.Calls.{list, choose, place, release, runs-in};
-ghost use Rattle.model.specs.OnRecord.{on-record, new, interval-count, view};
+ghost use Rattle.model.specs.OnRecord.{on-record, new, interval-count, view, fragmentation};
 ghost use Rattle.listing.specs.Columns.{Given};
-ghost use Rattle.card.specs.Leaves.{Leaves, Changes, ChecksRecord, ChecksTask, ChecksPlace, ChecksRelease, ChecksColumn};
+ghost use Rattle.card.specs.Leaves.{Leaves, Changes, Tells, ChecksRecord, ChecksTask, ChecksPlace, ChecksRelease, ChecksColumn};
 
 // MODEL 13.1: the table of refusals. −3 is new's for what is no device, and the interval count's for a column that the device does not have.
 pub const RECORD_LENGTH: i32 = -1;
@@ -273,6 +273,25 @@ pub extern "C" fn card_interval_count(record: &[u8], column: u32) -> i32
     match check_column(record, column) {
         Check::Refuse(answer) => answer,
         Check::Pass => record[model::COUNTS_AT + column as usize] as i32,
+    }
+}
+
+// MODEL 22.5: how broken up a card is. The answer is the number of connected sets; the free cells and the degree are written, as zeros if refused.
+#[no_mangle]
+pub extern "C" fn card_fragmentation(record: &[u8], free: &mut i32, degree: &mut i32) -> i32
+    ensures { λ r. ⌜ Tells (fragmentation (now («record» .entry))) r (now (free .exit)) (now (degree .exit)) (now («record» .exit)) ⌝ }
+{
+    *free = 0;
+    *degree = 0;
+    match check_record(record) {
+        Check::Refuse(answer) => answer,
+        Check::Pass => {
+            let sets = fragments::connected::count_sets(record);
+            let cells = fragments::free::count_free(record);
+            *free = cells as i32;
+            *degree = fragments::free::degree_of(sets, cells) as i32;
+            sets as i32
+        }
     }
 }
 

@@ -14,7 +14,7 @@ use Rattle.model.specs.Sound.{sound}
 use Rattle.model.specs.Calls.{Call, list, choose, place, release, refused, refusals}
 use Rattle.model.specs.OnRecord.{interval-count, view-of, view}
 use Rattle.model.specs.Laws.WriteBack.{Bytes}
-use Rattle.model.specs.Laws.OnRecord.{plain-refusal, wrong-length-call, not-sound-call, refused-call, count-wrong-length, count-not-sound}
+use Rattle.model.specs.Laws.OnRecord.{plain-refusal, wrong-length-call, not-sound-call, refused-call, count-wrong-length, count-not-sound, fragmentation-wrong-length, fragmentation-not-sound}
 use Rattle.listing.specs.Columns.{Given}
 use Rattle.card.specs.declared.Check.{Check}
 use Rattle.card.specs.declared.Check.the-variants.{Pass, Refuse}
@@ -28,10 +28,10 @@ unfolding view view-of
 uncounted r k m e = (e, rw e)
 
 pub check-length : (r : List ℕ) → length r ≢ record-size → ChecksRecord r (Refuse (negsuc 0))
-check-length r h = (λ c. wrong-length-call r c h, λ k. uncounted r k 0 (count-wrong-length r k h))
+check-length r h = (λ c. wrong-length-call r c h, λ k. uncounted r k 0 (count-wrong-length r k h), fragmentation-wrong-length r h)
 
 pub check-sound : (r : List ℕ) → length r ≡ record-size → sound r ≡ false → ChecksRecord r (Refuse (negsuc 1))
-check-sound r h s = (λ c. not-sound-call r c h s, λ k. uncounted r k 1 (count-not-sound r k h s))
+check-sound r h s = (λ c. not-sound-call r c h s, λ k. uncounted r k 1 (count-not-sound r k h s), fragmentation-not-sound r h s)
 
 -- and what a call learns of them
 module _ (r : List ℕ) (x : Check) (h : ChecksRecord r x) where
