@@ -57,6 +57,10 @@ fn load_and_unload(card: &mut Card, out: &mut impl Write) -> Result<(), Box<dyn 
     writeln!(out, "A small one, loaded as number 8 at {best}. The card:")?;
     writeln!(out, "{card}")?;
 
+    // How broken up is it? Free cells that touch are one set; with all in one set the degree is 0.
+    let broken_up = card.fragmentation()?;
+    writeln!(out, "Its fragmentation: {broken_up}.")?;
+
     // Who is there? Any half row of a cell will do.
     if let Some(running) = card.running_at(1, 2) {
         writeln!(out, "Column 1, half row 2 is held by {running}.")?;

@@ -1,5 +1,5 @@
-//! Measures the calls on an empty card, a busy card and two cards full of combs, and makes the
-//! tables and the plot of the document from stored runs.
+//! Measures the calls on an empty card, a busy card, two cards full of combs and two of which every
+//! other cell is held, and makes the tables and the plot of the document from stored runs.
 //!
 //! [`measure`] has the rounds, [`rows`] and [`growth`] what is measured in them, [`run`] a stored
 //! run, [`summary`] all of them side by side, [`targets`] what they are judged by, and [`table`],

@@ -90,9 +90,8 @@ pub fn wide_probe(blocks: usize) -> Probe {
     }
 }
 
-/// A card without running tasks.
-pub fn empty(subject: &dyn Calls, rows: u32) -> Load {
-    let kinds = kinds();
+/// A card of some kinds without running tasks.
+fn empty_of(subject: &dyn Calls, rows: u32, kinds: Vec<u8>) -> Load {
     let mut record = vec![0; RECORD_SIZE];
     assert_eq!(subject.new(&mut record, rows, &kinds), 0);
     Load {
@@ -101,6 +100,11 @@ pub fn empty(subject: &dyn Calls, rows: u32) -> Load {
         kinds,
         record,
     }
+}
+
+/// A card of mixed columns without running tasks.
+pub fn empty(subject: &dyn Calls, rows: u32) -> Load {
+    empty_of(subject, rows, kinds())
 }
 
 /// A card with so many tasks of five blocks, placed where choose says, after others came and went.
@@ -145,4 +149,33 @@ pub fn combs(subject: &dyn Calls, teeth: i16) -> Load {
         assert_eq!(placed, 0);
     }
     load
+}
+
+/// The most blocks of a task, as a comb's teeth.
+const MOST_TEETH: i16 = 32;
+
+/// A card of which every other cell is held: 64 columns of logic, a comb of 32 blocks in each.
+///
+/// It has 64 rows, since no more blocks than these can run. The combs of odd columns have a bottom of their own.
+fn every_other(subject: &dyn Calls, name: &str, odd_bottom: i32) -> Load {
+    let kinds = vec![Kind::C.byte(); 64];
+    let mut load = empty_of(subject, 64, kinds);
+    load.name = format!("{name} of 2,048 blocks");
+    for column in 0..64 {
+        let bottom = odd_bottom * (column as i32 % 2);
+        let number = 1000 * (column + 1);
+        let placed = subject.place(&mut load.record, &comb(MOST_TEETH), number, column, bottom);
+        assert_eq!(placed, 0);
+    }
+    load
+}
+
+/// Every other cell held, the same in all columns: each row of free cells is a connected set.
+pub fn stripes(subject: &dyn Calls) -> Load {
+    every_other(subject, "stripes", 0)
+}
+
+/// Every other cell held, in neighbouring columns not the same: each free cell is a connected set.
+pub fn chessboard(subject: &dyn Calls) -> Load {
+    every_other(subject, "chessboard", 2)
 }

@@ -3,7 +3,7 @@
 //!     bench run [--quick] FOLDER    measures, and stores the run in FOLDER/performance under the next number
 //!     bench document FOLDER         makes the tables of FOLDER/PERFORMANCE.md, the plot and the README's lines on speed from all stored runs
 //!
-//! A run takes about a minute, and is made with `--release`. `--quick` makes fewer rounds, for a try.
+//! A run takes a little more than a minute, and is made with `--release`. `--quick` makes fewer rounds, for a try.
 
 #![deny(missing_docs)]
 #![forbid(unsafe_code)]
@@ -21,7 +21,7 @@ use bench::names::{CALLS, CALL_RATIOS, SEARCHES, SEARCH_RATIOS};
 use bench::run::{figures, About, Figure, Run};
 use bench::summary::Summary;
 use bench::{document, growth, machine, plot, rows, run};
-use calls::SUBJECTS;
+use calls::{Calls, SUBJECTS};
 
 /// How many rounds a row has.
 const ROUNDS: usize = 301;
@@ -30,23 +30,32 @@ const QUICK_ROUNDS: usize = 11;
 /// Four turns are shorter than a time slice, so that most rounds are not broken off. A call that takes longer is a turn by itself.
 const TURN: Duration = Duration::from_micros(200);
 
-/// The four loads; every implementation must come to the same records.
-fn loads() -> Vec<Load> {
-    let build = |subject| {
-        [
-            loads::empty(subject, 128),
-            loads::busy(subject, 20),
-            loads::combs(subject, 8),
-            loads::combs(subject, 32),
-        ]
-    };
+/// Makes loads; every implementation must come to the same records.
+fn made<const N: usize>(build: impl Fn(&'static dyn Calls) -> [Load; N]) -> [Load; N] {
     let loads = build(SUBJECTS[0]);
     for &subject in &SUBJECTS[1..] {
         let same = build(subject);
         let is_same = loads.iter().zip(&same).all(|(a, b)| a.record == b.record);
         assert!(is_same, "{} comes to other records", subject.name());
     }
-    loads.into()
+    loads
+}
+
+/// The four loads on which every call is measured.
+fn loads() -> [Load; 4] {
+    made(|subject| {
+        [
+            loads::empty(subject, 128),
+            loads::busy(subject, 20),
+            loads::combs(subject, 8),
+            loads::combs(subject, 32),
+        ]
+    })
+}
+
+/// The two loads on which no further task may run, so that only calls without a task are measured.
+fn full_loads() -> [Load; 2] {
+    made(|subject| [loads::stripes(subject), loads::chessboard(subject)])
 }
 
 /// Measures every call on every load.
@@ -63,6 +72,11 @@ fn measure_calls(effort: Effort) -> Vec<Figure> {
             all.extend(figures(CALLS, &load.name, &row, &CALL_RATIOS));
         }
     }
+    for load in &full_loads() {
+        for row in rows::simple_rows(load, effort) {
+            all.extend(figures(CALLS, &load.name, &row, &CALL_RATIOS));
+        }
+    }
     all
 }
 
@@ -71,12 +85,17 @@ fn measure_searches(effort: Effort) -> Vec<Figure> {
     let probes = [loads::mixed_probe(), loads::comb_probe()];
     let mut all = Vec::new();
     for load in &loads() {
-        let rows = probes
-            .iter()
-            .flat_map(|probe| rows::search_alone(load, probe, effort));
+        let mut rows = vec![rows::fragmentation_alone(load, effort)];
+        for probe in &probes {
+            rows.extend(rows::search_alone(load, probe, effort));
+        }
         for row in rows {
             all.extend(figures(SEARCHES, &load.name, &row, &SEARCH_RATIOS));
         }
+    }
+    for load in &full_loads() {
+        let row = rows::fragmentation_alone(load, effort);
+        all.extend(figures(SEARCHES, &load.name, &row, &SEARCH_RATIOS));
     }
     all
 }

@@ -9,7 +9,7 @@ pub const SEARCHES: &str = "searches";
 pub const PROVED: &str = "proved";
 /// The same algorithm in unverified Rust.
 pub const PLAIN: &str = "plain";
-/// The scan of a cell matrix.
+/// The scan of a cell matrix; for fragmentation, the flood fill of one.
 pub const MATRIX: &str = "matrix";
 /// The comparison of two records.
 pub const MEMCMP: &str = "memcmp";
@@ -17,7 +17,7 @@ pub const MEMCMP: &str = "memcmp";
 /// Two of what is measured, of which the first is divided by the second.
 pub type Ratio = (&'static str, &'static str);
 
-/// The ratios of a call; a row without a matrix scan lacks that one.
+/// The ratios of a call; a row without a cell matrix lacks that one.
 pub const CALL_RATIOS: [Ratio; 3] = [(PROVED, PLAIN), (MATRIX, PROVED), (PROVED, MEMCMP)];
 /// The ratios of a search. The proved one can be next to nothing beside the check, so it is not divided by.
 pub const SEARCH_RATIOS: [Ratio; 2] = [(MATRIX, PLAIN), (PROVED, MATRIX)];

@@ -7,6 +7,7 @@ use calls::{Calls, SUBJECTS};
 use oracle::layout::RECORD_SIZE;
 use oracle::listing::LIST_ROOM;
 use oracle::Position;
+use plain::fragments;
 
 use crate::loads::{Load, Probe, PROBE_NUMBER};
 use crate::measure::{half, rounds, whole, Effort, Named, Samples, Work};
@@ -48,7 +49,28 @@ fn row<'a>(load: &'a Load, call: String, mut works: Vec<Named<'a>>, effort: Effo
     Row { call, samples }
 }
 
-/// New and interval count.
+/// Fragmentation with its two numbers, by one of the implementations.
+fn broken_up(call: impl Fn(&mut i32, &mut i32) -> i32) -> [i32; 3] {
+    let (mut free, mut degree) = (0, 0);
+    let sets = call(&mut free, &mut degree);
+    [sets, free, degree]
+}
+
+/// Fragmentation, with the flood fill of a cell matrix behind the same check.
+fn fragmentation_row(load: &Load, effort: Effort) -> Row {
+    let record = &load.record;
+    let work = |subject: &'static dyn Calls| {
+        whole(move || {
+            broken_up(|free, degree| subject.fragmentation(black_box(record), free, degree))
+        })
+    };
+    let mut works = subjects(work);
+    let flood = || broken_up(|free, degree| matrix::fragmentation(black_box(record), free, degree));
+    works.push((MATRIX, whole(flood)));
+    row(load, "fragmentation".into(), works, effort)
+}
+
+/// The calls that take no task: new, interval count and fragmentation.
 pub fn simple_rows(load: &Load, effort: Effort) -> Vec<Row> {
     let made = RefCell::new(vec![0; RECORD_SIZE]);
     let new = |subject: &'static dyn Calls| {
@@ -59,6 +81,7 @@ pub fn simple_rows(load: &Load, effort: Effort) -> Vec<Row> {
     vec![
         row(load, "new".into(), subjects(new), effort),
         row(load, "interval count".into(), counts, effort),
+        fragmentation_row(load, effort),
     ]
 }
 
@@ -142,10 +165,26 @@ pub fn search_alone(load: &Load, probe: &Probe, effort: Effort) -> Vec<Row> {
     ]
 }
 
+/// Fragmentation without the record's check: that of plain and the flood fill by themselves, the proved one
+/// less the interval count.
+pub fn fragmentation_alone(load: &Load, effort: Effort) -> Row {
+    let record = plain::calls::checked(&load.record).expect("loads are sound");
+    let (bytes, proved) = (&load.record, SUBJECTS[0]);
+    let works = [
+        whole(|| {
+            let record = black_box(record);
+            (fragments::sets(record), fragments::free_cells(record))
+        }),
+        whole(|| matrix::flood(black_box(record))),
+        whole(|| broken_up(|free, degree| proved.fragmentation(black_box(bytes), free, degree))),
+    ];
+    alone(load, "fragmentation".into(), works, effort)
+}
+
 /// The check of the record, measured to be taken off.
 const CHECK: &str = "check";
 
-/// Measures the searches of plain and of the matrix, and the proved call less the check in it.
+/// Measures the works of plain and of the matrix, and the proved call less the check in it.
 fn alone(load: &Load, call: String, works: [Work; 3], effort: Effort) -> Row {
     let [plain, matrix, whole_call] = works;
     let works = vec![

@@ -5,7 +5,7 @@ use crate::names::{
     ratio, time, Ratio, CALLS, CALL_RATIOS, MATRIX, PLAIN, PROVED, SEARCHES, SEARCH_RATIOS,
 };
 use crate::summary::{spread, Spread, Summary, COMMON};
-use crate::targets::{Better, Measure, CHECK, CHOICE, SLOWNESS, TARGETS};
+use crate::targets::{Better, Measure, CHECK, CHOICE, FLOOD, SETS, SLOWNESS, TARGETS};
 
 /// What stands where there is no figure.
 const NONE: &str = "–";
@@ -101,7 +101,7 @@ pub fn targets(summary: &Summary) -> String {
     for target in TARGETS {
         let loads = match target.load {
             Some(load) => vec![load],
-            None => summary.loads(target.measure.part),
+            None => target.measure.loads(summary),
         };
         for load in loads {
             let by_run = target.measure.worst(summary, load);
@@ -116,9 +116,9 @@ pub fn targets(summary: &Summary) -> String {
     table(&heads.map(String::from), &rows)
 }
 
-/// The worst ratio of all runs on each load, as words.
+/// The worst ratio of all runs on each load that has one, as words.
 fn by_load(summary: &Summary, measure: Measure) -> String {
-    let loads = summary.loads(measure.part);
+    let loads = measure.loads(summary);
     let words = |load: &&str| {
         let by_run = spread(&measure.worst(summary, load));
         let worst = match measure.better {
@@ -130,15 +130,18 @@ fn by_load(summary: &Summary, measure: Measure) -> String {
     loads.iter().map(words).collect::<Vec<_>>().join("; ")
 }
 
-/// The three lines at the top.
+/// The lines at the top.
 pub fn top(summary: &Summary) -> String {
     let slowness = by_load(summary, SLOWNESS);
     let choice = by_load(summary, CHOICE);
     let check = by_load(summary, CHECK);
+    let sets = by_load(summary, SETS);
+    let flood = by_load(summary, FLOOD);
     format!(
         "- **A call beside the same algorithm in unverified Rust**, for a task of 5 blocks or a comb of 16. The slowest took at most, in times of the other: {slowness}.\n\
          - **Choosing beside the scan of a cell matrix**, for the same tasks. Where it gains least, the scan took at least, in times of choosing: {choice}.\n\
-         - **The check of the record beside a comparison of its bytes**; every call but new makes it. It took at most, in times of the other: {check}.\n"
+         - **The check of the record beside a comparison of its bytes**; every call but new makes it. It took at most, in times of the other: {check}.\n\
+         - **Fragmentation beside the same algorithm in unverified Rust, and beside the flood fill of a cell matrix.** It took at most, in times of the first: {sets}. The flood fill took at least, in times of fragmentation: {flood}.\n"
     )
 }
 
@@ -167,11 +170,13 @@ pub fn runs(summary: &Summary) -> String {
 }
 
 /// The calls of the growth tables, with their implementations.
-const GROWING: [(&str, &str); 6] = [
+const GROWING: [(&str, &str); 8] = [
     (PROVED, "interval count"),
+    (PROVED, "fragmentation"),
     (PROVED, "place"),
     (PROVED, "list"),
     (PROVED, "choose"),
+    (MATRIX, "fragmentation"),
     (MATRIX, "list"),
     (MATRIX, "choose"),
 ];

@@ -34,7 +34,7 @@ pub struct Target {
     pub measure: Measure,
     /// The worst ratio that meets it.
     pub bound: f64,
-    /// The only load that it is about, if it is not about all.
+    /// The only load that it is about, if it is not about all that have its calls.
     pub load: Option<&'static str>,
 }
 
@@ -70,8 +70,35 @@ pub const CHECK: Measure = Measure {
     better: Better::Lower,
 };
 
+/// Fragmentation beside plain Rust.
+pub const SETS: Measure = Measure {
+    part: CALLS,
+    call: "fragmentation",
+    ratio: (PROVED, PLAIN),
+    better: Better::Lower,
+};
+
+/// Fragmentation beside the flood fill of a cell matrix.
+pub const FLOOD: Measure = Measure {
+    part: CALLS,
+    call: "fragmentation",
+    ratio: (MATRIX, PROVED),
+    better: Better::Higher,
+};
+
+/// Fragmentation beside the flood fill, both without the check.
+pub const FLOOD_ALONE: Measure = Measure {
+    part: SEARCHES,
+    call: "fragmentation",
+    ratio: (PROVED, MATRIX),
+    better: Better::Lower,
+};
+
+/// The least ratio above 1 that a stored run can have: it has four digits.
+const ABOVE_ONE: f64 = 1.0001;
+
 /// The targets.
-pub const TARGETS: [Target; 5] = [
+pub const TARGETS: [Target; 8] = [
     Target {
         words: "each call takes at most 2 times as long as plain",
         measure: SLOWNESS,
@@ -102,6 +129,24 @@ pub const TARGETS: [Target; 5] = [
         bound: 8.0,
         load: Some("20 tasks of 5 blocks"),
     },
+    Target {
+        words: "fragmentation takes at most 2 times as long as plain",
+        measure: SETS,
+        bound: 2.0,
+        load: None,
+    },
+    Target {
+        words: "fragmentation is faster than the flood fill of matrix, check included",
+        measure: FLOOD,
+        bound: ABOVE_ONE,
+        load: None,
+    },
+    Target {
+        words: "fragmentation takes at most as long as the flood fill of matrix, check left out",
+        measure: FLOOD_ALONE,
+        bound: 1.0,
+        load: None,
+    },
 ];
 
 impl Measure {
@@ -113,15 +158,27 @@ impl Measure {
         }
     }
 
+    /// The figures that count.
+    fn lines<'a>(&self, summary: &'a Summary) -> impl Iterator<Item = &'a Line> {
+        let Measure { part, call, .. } = *self;
+        let name = ratio(self.ratio);
+        summary.lines.iter().filter(move |line| {
+            let key = &line.key;
+            key.part == part && key.call.starts_with(call) && key.name == name
+        })
+    }
+
+    /// The loads on which it is measured, in their order.
+    pub fn loads<'a>(&self, summary: &'a Summary) -> Vec<&'a str> {
+        let lines = self.lines(summary);
+        let mut loads: Vec<&str> = lines.map(|line| line.key.load.as_str()).collect();
+        loads.dedup();
+        loads
+    }
+
     /// The worst ratio of the calls on a load, in each run.
     pub fn worst(&self, summary: &Summary, load: &str) -> Vec<f64> {
-        let name = ratio(self.ratio);
-        let counts = |line: &&Line| {
-            let key = &line.key;
-            let is_there = key.part == self.part && key.load == load;
-            is_there && key.call.starts_with(self.call) && key.name == name
-        };
-        let lines = summary.lines.iter().filter(counts);
+        let lines = self.lines(summary).filter(|line| line.key.load == load);
         let by_run = lines.map(|line| line.by_run.clone());
         let worse = |worst: Vec<f64>, other: Vec<f64>| {
             let pairs = worst.into_iter().zip(other);
@@ -129,7 +186,7 @@ impl Measure {
         };
         by_run
             .reduce(worse)
-            .expect("every judged call is measured on every load")
+            .expect("a load that is judged has a call that counts")
     }
 }
 

@@ -1,4 +1,4 @@
-//! Rounds, stored runs, summaries and the document, on written data: nothing is timed here.
+//! Loads, rounds, stored runs, summaries and the document, on written data: nothing is timed here.
 
 use std::cell::RefCell;
 use std::fs;
@@ -12,8 +12,9 @@ use bench::names::{CALL_RATIOS, PLAIN, PROVED};
 use bench::rows::Row;
 use bench::run::{figures, store, stored, About, Figure, Key, Run};
 use bench::summary::{Spread, Summary};
-use bench::targets::{CHECK, CHOICE, SLOWNESS, TARGETS};
-use bench::{plot, table};
+use bench::targets::{CHECK, CHOICE, FLOOD, SLOWNESS, TARGETS};
+use bench::{loads, plot, table};
+use calls::{Calls, SUBJECTS};
 
 /// A figure whose quartiles are one number.
 fn figure(part: &str, load: &str, call: &str, name: &str, value: f64) -> Figure {
@@ -42,6 +43,14 @@ fn sample(slowest: f64) -> Run {
         figures.push(figure("calls", load, choose, "matrix / proved", 40.0));
         let list = "list, 5 blocks";
         figures.push(figure("searches", load, list, "proved / matrix", 0.0125));
+    }
+    // A load on which calls with a task are not measured.
+    for (call, name, value) in [
+        ("interval count", "proved / memcmp", 160.0),
+        ("fragmentation", "proved / plain", 0.9),
+        ("fragmentation", "matrix / proved", 0.5 * slowest),
+    ] {
+        figures.push(figure("calls", "stripes", call, name, value));
     }
     for series in ["tasks", "blocks", "rows"] {
         for (amount, ns) in [("8", 1500.0), ("16", 3000.0)] {
@@ -180,6 +189,7 @@ fn targets_are_judged_in_each_run_by_the_worst_call() {
     assert_eq!(SLOWNESS.worst(&summary, load), [1.5, 2.5, 1.0, 2.0]);
     assert_eq!(CHOICE.worst(&summary, load), [40.0; 4]);
     assert_eq!(CHECK.worst(&summary, load), [2.0; 4]);
+    assert_eq!(FLOOD.worst(&summary, "stripes"), [0.75, 1.25, 0.5, 1.0]);
     let [slowness, choice, ..] = TARGETS;
     assert_eq!(
         slowness.verdict(&[1.5, 2.5, 1.0, 2.0]),
@@ -188,6 +198,70 @@ fn targets_are_judged_in_each_run_by_the_worst_call() {
     assert_eq!(slowness.verdict(&[2.0, 1.0]), "met in all 2 runs");
     assert_eq!(choice.verdict(&[4.9, 1.0]), "missed in all 2 runs");
     assert_eq!(choice.verdict(&[5.0, 6.0]), "met in all 2 runs");
+}
+
+#[test]
+fn a_target_is_judged_on_the_loads_that_have_its_calls() {
+    let summary = summary();
+    assert_eq!(
+        CHECK.loads(&summary),
+        ["empty, 128 rows", "20 tasks of 5 blocks", "stripes"]
+    );
+    assert_eq!(
+        CHOICE.loads(&summary),
+        ["empty, 128 rows", "20 tasks of 5 blocks"]
+    );
+    assert_eq!(FLOOD.loads(&summary), ["stripes"]);
+}
+
+#[test]
+fn to_take_as_long_as_the_flood_fill_is_not_to_be_faster() {
+    let flood = TARGETS
+        .iter()
+        .find(|target| target.words.contains("faster"));
+    let flood = flood.expect("a target of the flood fill");
+    assert!(!flood.is_met(1.0));
+    assert!(flood.is_met(1.0001));
+}
+
+/// Fragmentation of a record by each measured implementation: sets, free cells and degree.
+fn fragmentation_by_all(record: &[u8]) -> Vec<[i32; 3]> {
+    let numbers = |call: &dyn Fn(&mut i32, &mut i32) -> i32| {
+        let (mut free, mut degree) = (0, 0);
+        let sets = call(&mut free, &mut degree);
+        [sets, free, degree]
+    };
+    let subjects = SUBJECTS.iter();
+    let by_subject =
+        |subject: &&dyn Calls| numbers(&|free, degree| subject.fragmentation(record, free, degree));
+    let mut all: Vec<_> = subjects.map(by_subject).collect();
+    all.push(numbers(&|free, degree| {
+        matrix::fragmentation(record, free, degree)
+    }));
+    all
+}
+
+#[test]
+fn all_that_is_measured_finds_the_loads_broken_up_alike() {
+    let subject = SUBJECTS[0];
+    // A free row of the stripes is one set, and a free cell of the chessboard.
+    let known = [
+        (loads::empty(subject, 128), [1, 48 * 128 + 16 * 51, 0]),
+        (loads::stripes(subject), [32, 2_048, 151]),
+        (loads::chessboard(subject), [2_048, 2_048, 10_000]),
+    ];
+    for (load, numbers) in known {
+        assert_eq!(fragmentation_by_all(&load.record), [numbers; 3]);
+    }
+    let others = [
+        loads::busy(subject, 20),
+        loads::combs(subject, 8),
+        loads::combs(subject, 32),
+    ];
+    for load in others {
+        let all = fragmentation_by_all(&load.record);
+        assert_eq!(all, [all[0]; 3], "{}", load.name);
+    }
 }
 
 #[test]
@@ -206,14 +280,18 @@ fn tables_have_the_figures_of_all_runs() {
     assert!(targets.contains(row), "{targets}");
     let growth = table::growth(&summary, "rows");
     assert!(
-        growth.contains("| 16 | – | – | 3000 | – | 300000 | – |\n"),
+        growth.contains("| 16 | – | – | – | 3000 | – | – | 300000 | – |\n"),
         "{growth}"
     );
-    // The three lines state the worst run.
+    let row = "| stripes | 0.88 (0.50 to 1.25) | met in 1 of 4 runs |\n";
+    assert!(targets.contains(row), "{targets}");
+    // The lines at the top state the worst run.
     let top = table::top(&summary);
-    assert_eq!(top.lines().count(), 3);
+    assert_eq!(top.lines().count(), 4);
+    let flood = "in times of the first: 0.90 (stripes). The flood fill took at least, in times of fragmentation: 0.50 (stripes).\n";
+    assert!(top.contains(flood), "{top}");
     assert!(
-        top.contains(": 2.50 (empty, 128 rows); 2.50 (20 tasks of 5 blocks).\n"),
+        top.contains(": 2.50 (empty, 128 rows); 2.50 (20 tasks of 5 blocks); 0.90 (stripes).\n"),
         "{top}"
     );
 }

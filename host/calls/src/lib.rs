@@ -1,4 +1,4 @@
-//! The calls of document 01 as a trait, with one type for each implementation.
+//! The calls on a record as a trait, with one type for each implementation.
 //!
 //! Tests and benchmarks are written over [`Calls`] and take any of them: the proved
 //! library, plain Rust, and the oracle.
@@ -30,6 +30,10 @@ pub trait Calls: Sync {
 
     /// Interval count: answers how many intervals a column has.
     fn interval_count(&self, record: &[u8], column: u32) -> i32;
+
+    /// Fragmentation: answers how many connected sets the free cells make, and writes the free cells
+    /// and the degree.
+    fn fragmentation(&self, record: &[u8], free: &mut i32, degree: &mut i32) -> i32;
 }
 
 /// A type whose calls are the functions of a module.
@@ -73,6 +77,10 @@ macro_rules! implementation {
 
             fn interval_count(&self, record: &[u8], column: u32) -> i32 {
                 $($module)::+::interval_count(record, column)
+            }
+
+            fn fragmentation(&self, record: &[u8], free: &mut i32, degree: &mut i32) -> i32 {
+                $($module)::+::fragmentation(record, free, degree)
             }
         }
     };

@@ -1,8 +1,8 @@
 //! The calls on byte slices, with the model's answers (`docs/MODEL.md`): the C calling form made safe, and nothing more.
 //!
 //! Each function takes any arguments at all: what the table of refusals has
-//! is refused by its number, and no byte changes. [`outcome`](crate::outcome)
-//! turns an answer into a `Result`. [`Card`](crate::Card) is the same with types.
+//! is refused by its number, and no byte changes (a refused [`fragmentation`] sets its two numbers
+//! to 0). [`outcome`](crate::outcome) turns an answer into a `Result`. [`Card`](crate::Card) is the same with types.
 //!
 //! Every call but new checks the whole record first, byte by byte and task by
 //! task; [`Card`](crate::Card#what-a-call-costs) says what that costs.
@@ -16,6 +16,9 @@
 //! let task = [0, 0, 0, 0, 2, 0];
 //! assert_eq!(bytes::place(&mut record, &task, 7, 0, 4), 0);
 //! assert_eq!(bytes::interval_count(&record, 0), 2);
+//! let (mut free, mut degree) = (0, 0);
+//! assert_eq!(bytes::fragmentation(&record, &mut free, &mut degree), 2);
+//! assert_eq!((free, degree), (4, 3_333));
 //! assert_eq!(bytes::release(&mut record, 7), 0);
 //! assert_eq!(bytes::choose(&record, &task), 0);
 //! ```
@@ -88,4 +91,12 @@ pub fn choose(record: &[u8], task: &[u8]) -> i32 {
 pub fn interval_count(record: &[u8], column: u32) -> i32 {
     // SAFETY: as in `new`.
     unsafe { raw::card_interval_count(record.as_ptr(), record.len(), column) }
+}
+
+/// Fragmentation: answers how many connected sets the free cells make, and writes how many cells are
+/// free and the degree in hundredths of a percent; [`Fragmentation`](crate::Fragmentation) says what
+/// these are. Or answers −1 or −2, and writes two zeros.
+pub fn fragmentation(record: &[u8], free: &mut i32, degree: &mut i32) -> i32 {
+    // SAFETY: as in `new`, and each of the two numbers is borrowed alone.
+    unsafe { raw::card_fragmentation(record.as_ptr(), record.len(), free, degree) }
 }

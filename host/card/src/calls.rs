@@ -1,8 +1,8 @@
-//! The calls on a card: place and release, list and choose, and the free intervals of a column.
+//! The calls on a card: place and release, list and choose, the free intervals of a column, and how broken up it is.
 
 use crate::bytes;
 use crate::layout::{COLUMN_SIZE, INTERVALS_AT, INTERVAL_SIZE, RANGE_SIZE};
-use crate::{outcome, Card, Intervals, Position, Ranges, Refusal, Task};
+use crate::{outcome, Card, Fragmentation, Intervals, Position, Ranges, Refusal, Task};
 
 impl<B: AsRef<[u8]> + AsMut<[u8]>> Card<B> {
     /// Place: puts the task on the card under a number, so that it holds its cells.
@@ -142,5 +142,34 @@ impl<B: AsRef<[u8]>> Card<B> {
         let start = INTERVALS_AT + COLUMN_SIZE * usize::from(column);
         let part = &self.as_bytes()[start..start + INTERVAL_SIZE * count];
         Ok(Intervals::of(part))
+    }
+
+    /// How broken up the card is: the connected sets of its free cells, the free cells, and the degree.
+    ///
+    /// [Checks the whole record](Card#what-a-call-costs), then goes over all free intervals.
+    /// Refuses nothing of its own.
+    ///
+    /// ```
+    /// use card::{Card, Device, Kind, Position, Task};
+    ///
+    /// let mut card = Card::new(&Device::from_text(5, "CCB")?);
+    /// assert_eq!(card.fragmentation()?.to_string(), "1 set, 12 free cells, 0.00 %");
+    /// // All of the middle column: what is left and right of it no longer touches.
+    /// card.place(&Task::of(Kind::C, 10), 7, Position::new(1, 0))?;
+    /// let broken_up = card.fragmentation()?;
+    /// assert_eq!((broken_up.sets, broken_up.free_cells), (2, 7));
+    /// // 1 / 6, in hundredths of a percent.
+    /// assert_eq!(broken_up.degree, 1_666);
+    /// # Ok::<(), card::Refusal>(())
+    /// ```
+    pub fn fragmentation(&self) -> Result<Fragmentation, Refusal> {
+        let (mut free, mut degree) = (0, 0);
+        let answer = bytes::fragmentation(self.as_bytes(), &mut free, &mut degree);
+        // Neither number is ever negative.
+        outcome(answer).map(|sets| Fragmentation {
+            sets,
+            free_cells: free as u32,
+            degree: degree as u32,
+        })
     }
 }

@@ -9,8 +9,9 @@
 //! B or D is 5. A circuit is a [`Task`]: blocks of whole cells, relative to the
 //! first one. A [`Card`] holds one device with its running tasks. It lists the
 //! [`Position`]s at which a task fits, chooses the best one, places a task
-//! there under a number, and releases it again. What can't be done is refused
-//! with a [`Refusal`], and then nothing has changed.
+//! there under a number, and releases it again; and it says how broken up its
+//! free cells are ([`Fragmentation`]). What can't be done is refused with a
+//! [`Refusal`], and then nothing has changed.
 //!
 //! ```
 //! use card::{Card, Device, Kind, Refusal, Task, LIST_ROOM};
@@ -37,8 +38,9 @@
 //! card.place(&task, 7, best)?;
 //! assert_eq!(card.choose(&task), Err(Refusal::NoPosition));
 //!
-//! // Look at the card.
+//! // Look at the card, and at how broken up it is.
 //! println!("{card}");
+//! assert_eq!(card.fragmentation()?.to_string(), "2 sets, 8 free cells, 14.28 %");
 //! assert_eq!(card.running_at(1, 2), card.running_task(7));
 //!
 //! // Unload it.
@@ -73,8 +75,9 @@
 //! # Stack
 //!
 //! What is proved leaves out a stack that runs out. A call needs at most 36 KiB
-//! of it ([`raw::card_new`] alone 8 KiB), whatever its input; most of that is
-//! the record that a call checks the lent one against. `tests/stack` measures it.
+//! of it, [`raw::card_fragmentation`] 44 KiB and [`raw::card_new`] 8 KiB, whatever
+//! its input; most of that is the record that a call checks the lent one
+//! against. `tests/stack` measures it.
 
 #![no_std]
 #![deny(missing_docs)]
@@ -92,6 +95,7 @@ mod card;
 mod check;
 mod device;
 mod fault;
+mod fragmentation;
 mod interval;
 mod kind;
 pub mod layout;
@@ -109,6 +113,7 @@ pub use card::Card;
 pub use check::{Broken, Rule};
 pub use device::Device;
 pub use fault::DeviceFault;
+pub use fragmentation::Fragmentation;
 pub use interval::{Interval, Intervals};
 pub use kind::Kind;
 pub use layout::{LIST_ROOM, MAX_BLOCKS, MAX_COLUMNS, MAX_ROWS, MAX_RUNNING, RECORD_SIZE};

@@ -1,9 +1,9 @@
 //! The functions of the static archive, as the Rattle source declares them: unsafe, for callers that hold pointers.
 //!
-//! A byte slice passes as a pointer and then a length. A caller keeps that
-//! each pointer is valid for its length, for writing where it is `*mut` (with
-//! length 0 it may be any, null too), and that a `*mut` part overlaps no other
-//! part. Everything else is promised: any bytes, lengths and numbers get the
+//! A byte slice passes as a pointer and then a length, a number that is written as
+//! a pointer alone. A caller keeps that each pointer is valid for its length, for
+//! writing where it is `*mut` (with length 0 it may be any, null too), that one to a
+//! number is valid and aligned, and that a `*mut` part overlaps no other part. Everything else is promised: any bytes, lengths and numbers get the
 //! model's answer. No pointer is kept. [`bytes`](crate::bytes) has the same functions on slices.
 //!
 //! Nothing checks these declarations against the source, so they stand in this
@@ -54,4 +54,12 @@ extern "C" {
 
     /// `card_interval_count(record: &[u8], column: u32) -> i32`
     pub fn card_interval_count(record: *const u8, record_len: usize, column: u32) -> i32;
+
+    /// `card_fragmentation(record: &[u8], free: &mut i32, degree: &mut i32) -> i32`
+    pub fn card_fragmentation(
+        record: *const u8,
+        record_len: usize,
+        free: *mut i32,
+        degree: *mut i32,
+    ) -> i32;
 }

@@ -59,7 +59,8 @@ fn all_calls(record: &mut [u8], output: &mut [u8]) -> Option<usize> {
         seen += card.intervals(1).ok()?.count();
         seen += card.running_task(number)?.task.blocks().len();
         card.running_at(best.column, best.bottom)?;
-        write!(Cursor::new(&mut *output), "{card}").ok()?;
+        let broken_up = card.fragmentation().ok()?;
+        write!(Cursor::new(&mut *output), "{broken_up}, {card}").ok()?;
     }
     let running = card.running().map(|running| running.task.blocks().len());
     seen += running.sum::<usize>();

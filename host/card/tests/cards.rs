@@ -224,6 +224,7 @@ fn bytes_that_somebody_else_wrote() {
         let refused = Some(Refusal::RecordNotSound);
         assert_eq!(card.choose(&three_blocks()).err(), refused);
         assert_eq!(card.intervals(0).err(), refused);
+        assert_eq!(card.fragmentation().err(), refused);
         let panics = |read: &dyn Fn() -> bool| catch_unwind(AssertUnwindSafe(read)).is_err();
         assert!(panics(&|| card.running().next().is_some()));
         assert!(panics(&|| card.running_task(7).is_some()));

@@ -70,6 +70,13 @@ static void choose(const uint8_t *task, size_t task_len) {
     printf("choose column %d bottom %d\n", (int)(answer / CARD_COLUMN_WEIGHT), (int)(answer % CARD_COLUMN_WEIGHT));
 }
 
+/* Prints how broken up the card is. The two numbers are written also where the record is refused. */
+static void fragmentation(const uint8_t *bytes, size_t length) {
+    int32_t free_cells = 77, degree = 77;
+    int32_t answer = card_fragmentation(bytes, length, &free_cells, &degree);
+    printf("fragmentation %d, free %d, degree %d\n", (int)answer, (int)free_cells, (int)degree);
+}
+
 static void example(void) {
     const uint8_t kinds[] = {CARD_KIND_C, CARD_KIND_C, CARD_KIND_B};
     const uint8_t three[] = {
@@ -90,6 +97,7 @@ static void example(void) {
     printf("place %d\n", (int)card_place(record, sizeof record, tall, sizeof tall, 8, 0, 0));
     show_card();
     printf("intervals %d\n", (int)card_interval_count(record, sizeof record, 0));
+    fragmentation(record, sizeof record);
     printf("release %d\n", (int)card_release(record, sizeof record, 9));
     printf("release %d\n", (int)card_release(record, sizeof record, 7));
     show_card();
@@ -112,6 +120,7 @@ static void null_parts(void) {
     printf("choose, record %d\n", (int)card_choose(NULL, 0, task, sizeof task));
     printf("choose, task %d\n", (int)card_choose(record, sizeof record, NULL, 0));
     printf("intervals, record %d\n", (int)card_interval_count(NULL, 0, 0));
+    fragmentation(NULL, 0);
     printf("all of list %d\n", (int)card_list(NULL, 0, NULL, 0, NULL, 0));
 }
 

@@ -25,6 +25,7 @@ column 2, kind 1: 0-5
 task 7 at column 0 bottom 4: 0,0,0,2 1,0,-2,2 2,1,1,6
 task 8 at column 0 bottom 0: 0,0,0,4
 intervals 1
+fragmentation 2, free 6, degree 2000
 release -11
 release 0
 5 rows
@@ -47,6 +48,7 @@ list, output -6
 choose, record -1
 choose, task -4
 intervals, record -1
+fragmentation -1, free 0, degree 0
 all of list -1
 ";
 

@@ -18,6 +18,13 @@ fn cell() -> Task {
     Task::of(Kind::C, 2)
 }
 
+/// Fragmentation of bytes that must be refused so; its two numbers are 0 then, whatever they were.
+fn fragmentation_refused(bytes: &[u8], wanted: Refusal) {
+    let (mut free, mut degree) = (77, -77);
+    let answer = bytes::fragmentation(bytes, &mut free, &mut degree);
+    assert_eq!((answer, free, degree), (wanted.number(), 0, 0));
+}
+
 /// Makes a call that must be refused so, and the record must stay.
 fn refused<T>(
     card: &mut Card,
@@ -51,6 +58,7 @@ fn bytes_of_another_length() {
         assert_eq!(made.err(), Some(Refusal::RecordLength));
         let opened = Card::open(&bytes);
         assert_eq!(opened.err(), Some(Refusal::RecordLength));
+        fragmentation_refused(&bytes, Refusal::RecordLength);
         assert_eq!(bytes, vec![0xA5; length]);
     }
 }
@@ -64,6 +72,7 @@ fn bytes_that_are_not_sound() {
         bytes[at] ^= 0x80;
         assert_eq!(Card::open(&bytes).err(), Some(Refusal::RecordNotSound));
         assert_eq!(bytes::release(&mut bytes, 1), -2);
+        fragmentation_refused(&bytes, Refusal::RecordNotSound);
     }
     assert!(Card::open(&good).is_ok());
 }

@@ -1,17 +1,22 @@
-//! List and choose by scanning a cell matrix, the naive way.
+//! List, choose and fragmentation on a cell matrix: the other measure of speed.
 //!
-//! The card is held as one flag for each half row of each column, made from the
-//! record's running entries, and every position is tried. The record's check and
-//! the reading of a task are those of `plain`, so that a difference in time is
+//! List and choose scan, the naive way. The card is held as one flag for each half
+//! row of each column, made from the record's running entries, and every position
+//! is tried. Fragmentation is a flood fill, in a file of its own. The record's check
+//! and the reading of a task are those of `plain`, so that a difference in time is
 //! one of the search alone.
 
 #![deny(missing_docs)]
 #![forbid(unsafe_code)]
 
+mod flood;
+
 use plain::calls::{checked, refusal, task};
 use plain::layout::*;
 use plain::record::{columns, kind, running};
 use plain::task::{Block, Task};
+
+pub use flood::{flood, fragmentation};
 
 /// The most half rows of a device.
 const MAX_HALF_ROWS: usize = 2 * MAX_ROWS as usize;

@@ -8,6 +8,7 @@ use crate::cells::{intervals, CellSet, Interval};
 use crate::choice;
 use crate::device::Device;
 use crate::fit::{cells_of, fits, Position};
+use crate::fragments::{fragmentation, Fragmentation};
 use crate::listing::{ranges, Range, LIST_ROOM, RANGE_SIZE};
 use crate::refusal::Refusal;
 use crate::task::Task;
@@ -90,6 +91,11 @@ impl Book {
     /// The ranges of a task, by column and then by first.
     pub fn ranges(&self, task: &Task) -> Vec<Range> {
         ranges(&self.device, &self.free_cells(), task)
+    }
+
+    /// How broken up the card is.
+    pub fn fragmentation(&self) -> Fragmentation {
+        fragmentation(&self.device, &self.free_cells())
     }
 
     /// Place: enters a task in the book, or refuses with −4, −5, −7, −8

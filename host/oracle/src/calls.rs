@@ -1,7 +1,8 @@
 //! The calls on byte strings, with the shapes that the library has.
 //!
 //! Each call judges the record first, so −1 and −2 come before all others, and
-//! writes only once nothing more can be refused.
+//! writes only once nothing more can be refused. Fragmentation alone writes when it is
+//! refused too: its second and third number, which are then 0.
 
 use crate::book::Book;
 use crate::layout::{column_part, COUNTS_AT, INTERVAL_SIZE, RECORD_SIZE};
@@ -68,6 +69,25 @@ pub fn view(record: &[u8], column: u32) -> &[u8] {
     match count(record, column) {
         Ok(count) => &record[column_part(column as usize)][..INTERVAL_SIZE * count],
         Err(_) => &[],
+    }
+}
+
+/// Fragmentation: answers how many connected sets the free cells form, or −1 or −2.
+///
+/// It writes how many cells are free, and the degree; two zeros where it refuses.
+pub fn fragmentation(record: &[u8], free: &mut i32, degree: &mut i32) -> i32 {
+    match book_of(record) {
+        Ok(book) => {
+            let numbers = book.fragmentation();
+            *free = numbers.free as i32;
+            *degree = numbers.degree as i32;
+            numbers.sets as i32
+        }
+        Err(refusal) => {
+            *free = 0;
+            *degree = 0;
+            refusal.number()
+        }
     }
 }
 

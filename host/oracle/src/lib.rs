@@ -1,15 +1,17 @@
-//! A reference implementation ("oracle") of document 01, cell by cell.
+//! A reference implementation ("oracle") of documents 01 and 02, cell by cell.
 //!
-//! It is written from that document alone, without a look at the definitions of
-//! the proved library, and searches by trying everything: every position, every
-//! cell. The library is compared with it, so where the two differ one of them has
-//! misread the document. `docs/MODEL.md` states the same in numbered clauses.
+//! It is written from these documents alone (of 02, request W1 is in), without a
+//! look at the definitions of the proved library, and searches by trying everything:
+//! every position, every cell. The library is compared with it, so where the two
+//! differ one of them has misread a document. `docs/MODEL.md` states the same in
+//! numbered clauses.
 //!
 //! Where to find what:
 //! - [`device`], [`task`]: the device with its cells, and tasks with their blocks;
 //! - [`cells`], [`fit`]: sets of cells, intervals, and whether a task fits;
 //! - [`book`]: the book of a history and the four calls on it;
 //! - [`listing`], [`choice`]: the ranges and the chosen position;
+//! - [`fragments`]: how broken up a card is, as three numbers;
 //! - [`layout`], [`record`], [`sound`]: the record's bytes, written and judged;
 //! - [`calls`], [`history`]: the calls on byte strings, and lists of calls;
 //! - [`line`](mod@line), [`sheet`](mod@sheet): the line reader and the sheet program;
@@ -36,6 +38,7 @@ pub mod cells;
 pub mod choice;
 pub mod device;
 pub mod fit;
+pub mod fragments;
 pub mod history;
 pub mod layout;
 pub mod line;

@@ -1,6 +1,7 @@
 //! The calls: the refusals in the table's order, then the work.
 
 use crate::choice;
+use crate::fragments;
 use crate::layout::*;
 use crate::listing::Search;
 use crate::record::{self, Entry};
@@ -166,6 +167,20 @@ pub fn search_choose(record: &Record, bytes: &[u8]) -> Answer {
 pub fn interval_count(record: &[u8], column: u32) -> i32 {
     let counted = counted(record, column).map(|part| part.len() / INTERVAL_SIZE);
     answer(counted.map(|count| count as i32))
+}
+
+/// Fragmentation: answers how many connected sets the free cells make, and writes how many cells are free and
+/// the degree in hundredths of a percent; or −1 or −2, with two zeros.
+pub fn fragmentation(record: &[u8], free: &mut i32, degree: &mut i32) -> i32 {
+    (*free, *degree) = (0, 0);
+    let counted = checked(record).map(|record| {
+        let sets = fragments::sets(record);
+        let cells = fragments::free_cells(record);
+        *free = cells as i32;
+        *degree = fragments::degree(sets, cells) as i32;
+        sets as i32
+    });
+    answer(counted)
 }
 
 /// The view: the bytes of a column's intervals, in their place in the record; none where interval count refuses.

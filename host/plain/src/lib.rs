@@ -6,7 +6,8 @@
 //!
 //! Where to find what: [`layout`] the constants, [`column`](mod@column) intervals cut and
 //! joined, [`task`](mod@task) blocks, [`record`] the record and its check,
-//! [`listing`] and [`choice`] the searches, [`calls`] the calls themselves.
+//! [`listing`] and [`choice`] the searches, [`fragments`] the connected sets of free cells,
+//! [`calls`] the calls themselves.
 
 #![deny(missing_docs)]
 #![forbid(unsafe_code)]
@@ -14,9 +15,10 @@
 pub mod calls;
 pub mod choice;
 pub mod column;
+pub mod fragments;
 pub mod layout;
 pub mod listing;
 pub mod record;
 pub mod task;
 
-pub use calls::{choose, interval_count, list, new, place, release, view};
+pub use calls::{choose, fragmentation, interval_count, list, new, place, release, view};

@@ -1,6 +1,6 @@
 //! The heaviest cards, and how deep each call writes on them.
 
-use card::bytes::{choose, interval_count, list, new, place, release};
+use card::bytes::{choose, fragmentation, interval_count, list, new, place, release};
 use card::{Card, Device, Kind, Task};
 use card::{LIST_ROOM, MAX_BLOCKS, MAX_COLUMNS, MAX_ROWS, MAX_RUNNING, RECORD_SIZE};
 use oracle::arbitrary::damage;
@@ -90,7 +90,7 @@ fn tasks() -> [Vec<u8>; 5] {
 }
 
 /// How deep each call writes for a card and a task, in the order of the exported calls.
-fn depths(card: &[u8], task: &[u8]) -> [usize; 6] {
+fn depths(card: &[u8], task: &[u8]) -> [usize; 7] {
     let kinds = kinds();
     let mut record = card.to_vec();
     let mut output = vec![0; LIST_ROOM];
@@ -110,15 +110,19 @@ fn depths(card: &[u8], task: &[u8]) -> [usize; 6] {
     let counted = depth(|| {
         interval_count(card, 0);
     });
+    let (mut free, mut degree) = (0, 0);
+    let broken_up = depth(|| {
+        fragmentation(card, &mut free, &mut degree);
+    });
     let made = depth(|| {
         new(&mut record, MAX_ROWS.into(), &kinds);
     });
-    [made, placed, released, listed, chosen, counted]
+    [made, placed, released, listed, chosen, counted, broken_up]
 }
 
 /// How deep each exported call writes at most.
-pub fn deepest() -> [usize; 6] {
-    let mut deepest = [0; 6];
+pub fn deepest() -> [usize; 7] {
+    let mut deepest = [0; 7];
     for card in cards() {
         for task in tasks() {
             let depths = depths(&card, &task);
@@ -140,5 +144,6 @@ pub fn through_rust() -> Option<usize> {
     let seen = ranges.flat_map(|range| range.positions()).count();
     card.release(7).ok()?;
     let card = Card::open(card.into_bytes()).ok()?;
+    card.fragmentation().ok()?;
     Some(seen + card.intervals(1).ok()?.count())
 }

@@ -3,6 +3,8 @@
 mod cards;
 mod choices;
 mod damage;
+mod fragments;
+mod fragments_random;
 mod helpers;
 mod histories;
 mod lines;
