@@ -29,10 +29,18 @@ cast-result : tie.Need-cast-result
 cast-result c = search needs
 
 sub-result : tie.Need-sub-result
-sub-result c = omega (arith, sets-bytes (c .before .before .before .before .before .before .before .before .args .«record» .now) (c .before .before .before .before .before .before .before .before .pre) (c .before .before .before .before .set-apart .last .0) (c .before .join-all .last .0) (c .before .join-all .result) (subst (λ (m : ℕ). Alone m (c .before .before .before .before .set-apart .last .0)) (c .before .before .before .before .before .before .total .ensures .0) (c .before .before .before .before .set-apart .ensures .0)) (c .before .join-all .ensures), c .before .before .before .before .before .before .total .ensures .0)
+sub-result c =
+    let start = c .before .before .before .before .before .before .before .before in
+    let set-apart = c .before .before .before .before .set-apart in
+    let total = c .before .before .before .before .before .before .total in
+    omega (arith, sets-bytes (start .args .«record» .now) (start .pre) (set-apart .last .0) (c .before .join-all .last .0) (c .before .join-all .result) (subst (λ (m : ℕ). Alone m (set-apart .last .0)) (total .ensures .0) (set-apart .ensures .0)) (c .before .join-all .ensures), total .ensures .0)
 
 returns : tie.Need-returns
-returns c = (omega (arith, sets-bytes (c .before .before .before .before .before .before .before .before .args .«record» .now) (c .before .before .before .before .before .before .before .before .pre) (c .before .before .before .before .set-apart .last .0) (c .before .join-all .last .0) (c .before .join-all .result) (subst (λ (m : ℕ). Alone m (c .before .before .before .before .set-apart .last .0)) (c .before .before .before .before .before .before .total .ensures .0) (c .before .before .before .before .set-apart .ensures .0)) (c .before .join-all .ensures), c .before .before .before .before .before .before .total .ensures .0), omega (arith, c .before .before .before .before .before .before .total .ensures .1))
+returns c =
+    let start = c .before .before .before .before .before .before .before .before in
+    let set-apart = c .before .before .before .before .set-apart in
+    let total = c .before .before .before .before .before .before .total in
+    (omega (arith, sets-bytes (start .args .«record» .now) (start .pre) (set-apart .last .0) (c .before .join-all .last .0) (c .before .join-all .result) (subst (λ (m : ℕ). Alone m (set-apart .last .0)) (total .ensures .0) (set-apart .ensures .0)) (c .before .join-all .ensures), total .ensures .0), omega (arith, total .ensures .1))
 
 pub count-sets-spec : {M : Type 1} → statement M
 count-sets-spec =

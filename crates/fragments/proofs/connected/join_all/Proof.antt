@@ -16,62 +16,93 @@ abbrev μ-loop : tie.MeasureT-loop
 μ-loop parents₀ «record» columns joins₀ base₀ c₀ parents joins base c = columns - c
 
 byte-requires : tie.Need-byte-requires Inv-loop μ-loop
-byte-requires c κs = omega (arith, sound-length (c .before .before .args .«record» .now) (c .before .before .pre .1))
+byte-requires c κs =
+    let start = c .before .before in
+    omega (arith, sound-length (start .args .«record» .now) (start .pre .1))
 
 loop-holds : tie.Need-loop-holds Inv-loop μ-loop
-loop-holds c = walking-start (c .before .before .before .args .«record» .now) (c .before .before .before .pre .1) (c .before .before .before .args .parents .now) (c .before .before .before .pre .0 .falls)
+loop-holds c =
+    let start = c .before .before .before in
+    walking-start (start .args .«record» .now) (start .pre .1) (start .args .parents .now) (start .pre .0 .falls)
 
 add-loop : tie.Need-add-loop Inv-loop μ-loop
-add-loop c = omega (arith, few-columns (c .before .before .before .before .args .«record» .now) (c .before .before .before .before .pre .1), c .loop .inv .on)
+add-loop c =
+    let start = c .before .before .before .before in
+    omega (arith, few-columns (start .args .«record» .now) (start .pre .1), c .loop .inv .on)
 
 join-next-requires : tie.Need-join-next-requires Inv-loop μ-loop
 join-next-requires c κs =
-    let w = c .before .before .loop .inv in
-    let l : c .before .before .loop .c + 1 < columns-of (device-of (c .before .before .before .before .before .before .args .«record» .now)) = omega (arith, columns-byte (c .before .before .before .before .before .before .args .«record» .now) (c .before .before .before .before .before .before .pre .1) (c .before .before .before .byte .result) (c .before .before .before .byte .ensures .is)) in (
-      record { falls = w .falls; few = omega (arith, w .size, c .before .before .before .before .before .before .pre .0 .few) },
-      c .before .before .before .before .before .before .pre .1,
+    let turn = c .before .before .loop in
+    let start = c .before .before .before .before .before .before in
+    let byte = c .before .before .before .byte in
+    let w = turn .inv in
+    let l : turn .c + 1 < columns-of (device-of (start .args .«record» .now)) = omega (arith, columns-byte (start .args .«record» .now) (start .pre .1) (byte .result) (byte .ensures .is)) in (
+      record { falls = w .falls; few = omega (arith, w .size, start .pre .0 .few) },
+      start .pre .1,
       l,
-      walking-room (c .before .before .before .before .before .before .args .«record» .now) (c .before .before .before .before .before .before .pre .1) (c .before .before .before .before .before .before .args .parents .now) (c .before .before .loop .parents) (c .before .before .loop .joins) (c .before .before .loop .base) (c .before .before .loop .c) w l (c .before .before .before .before .before .before .pre .2),
+      walking-room (start .args .«record» .now) (start .pre .1) (start .args .parents .now) (turn .parents) (turn .joins) (turn .base) (turn .c) w l (start .pre .2),
     )
 
 add-joins : tie.Need-add-joins Inv-loop μ-loop
 add-joins c =
-    let r = c .before .before .before .before .before .before .before .before .before .args .«record» .now in
-    let s = c .before .before .before .before .before .before .before .before .before .pre .1 in
-    let l : c .before .before .before .before .before .loop .c + 1 < columns-of (device-of r) = omega (arith, columns-byte (c .before .before .before .before .before .before .before .before .before .args .«record» .now) (c .before .before .before .before .before .before .before .before .before .pre .1) (c .before .before .before .before .before .before .byte .result) (c .before .before .before .before .before .before .byte .ensures .is)) in
-    omega (arith, c .before .before .before .before .before .loop .inv .few, few-columns r s, c .before .before .join-next .ensures .1, count-few r s (c .before .before .before .before .before .loop .c) (omega (arith, few-columns r s)), count-few r s (c .before .before .before .before .before .loop .c + 1) (omega (arith, few-columns r s)))
+    let start = c .before .before .before .before .before .before .before .before .before in
+    let turn = c .before .before .before .before .before .loop in
+    let byte = c .before .before .before .before .before .before .byte in
+    let join-next = c .before .before .join-next in
+    let r = start .args .«record» .now in
+    let s = start .pre .1 in
+    let l : turn .c + 1 < columns-of (device-of r) = omega (arith, columns-byte (start .args .«record» .now) (start .pre .1) (byte .result) (byte .ensures .is)) in
+    omega (arith, turn .inv .few, few-columns r s, join-next .ensures .1, count-few r s (turn .c) (omega (arith, few-columns r s)), count-few r s (turn .c + 1) (omega (arith, few-columns r s)))
 
 add-byte : tie.Need-add-byte Inv-loop μ-loop
-add-byte c = omega (arith, few-columns (c .before .before .before .before .before .before .before .before .before .args .«record» .now) (c .before .before .before .before .before .before .before .before .before .pre .1), c .before .before .before .before .before .loop .inv .on)
+add-byte c =
+    let start = c .before .before .before .before .before .before .before .before .before in
+    let turn = c .before .before .before .before .before .loop in
+    omega (arith, few-columns (start .args .«record» .now) (start .pre .1), turn .inv .on)
 
 byte-requires-2 : tie.Need-byte-requires-2 Inv-loop μ-loop
-byte-requires-2 c κs = omega (arith, few-columns (c .before .before .before .before .before .before .before .before .before .args .«record» .now) (c .before .before .before .before .before .before .before .before .before .pre .1), c .before .before .before .before .before .loop .inv .on, sound-length (c .before .before .before .before .before .before .before .before .before .args .«record» .now) (c .before .before .before .before .before .before .before .before .before .pre .1))
+byte-requires-2 c κs =
+    let start = c .before .before .before .before .before .before .before .before .before in
+    let turn = c .before .before .before .before .before .loop in
+    omega (arith, few-columns (start .args .«record» .now) (start .pre .1), turn .inv .on, sound-length (start .args .«record» .now) (start .pre .1))
 
 add-base : tie.Need-add-base Inv-loop μ-loop
 add-base c =
-    let r = c .before .before .before .before .before .before .before .before .before .before .args .«record» .now in
-    let s = c .before .before .before .before .before .before .before .before .before .before .pre .1 in
-    omega (arith, c .before .before .before .before .before .before .loop .inv .from, c .before .before .before .before .before .before .loop .inv .on, few-columns r s, base-few r s (c .before .before .before .before .before .before .loop .c) (omega (arith, few-columns r s, c .before .before .before .before .before .before .loop .inv .on)), c .byte2 .ensures .small)
+    let start = c .before .before .before .before .before .before .before .before .before .before in
+    let turn = c .before .before .before .before .before .before .loop in
+    let r = start .args .«record» .now in
+    let s = start .pre .1 in
+    omega (arith, turn .inv .from, turn .inv .on, few-columns r s, base-few r s (turn .c) (omega (arith, few-columns r s, turn .inv .on)), c .byte2 .ensures .small)
 
 add-c : tie.Need-add-c Inv-loop μ-loop
-add-c c = omega (arith, few-columns (c .before .before .before .before .before .before .before .before .before .before .args .«record» .now) (c .before .before .before .before .before .before .before .before .before .before .pre .1), c .before .before .before .before .before .before .loop .inv .on)
+add-c c =
+    let start = c .before .before .before .before .before .before .before .before .before .before in
+    let turn = c .before .before .before .before .before .before .loop in
+    omega (arith, few-columns (start .args .«record» .now) (start .pre .1), turn .inv .on)
 
 loop-less : tie.Need-loop-less Inv-loop μ-loop
 loop-less c = omega arith
 
 loop-again : tie.Need-loop-again Inv-loop μ-loop
 loop-again c =
-    let w = c .before .before .before .before .before .before .loop .inv in
-    let l : c .before .before .before .before .before .before .loop .c + 1 < columns-of (device-of (c .before .before .before .before .before .before .before .before .before .before .args .«record» .now)) = omega (arith, columns-byte (c .before .before .before .before .before .before .before .before .before .before .args .«record» .now) (c .before .before .before .before .before .before .before .before .before .before .pre .1) (c .before .before .before .before .before .before .before .byte .result) (c .before .before .before .before .before .before .before .byte .ensures .is)) in
+    let turn = c .before .before .before .before .before .before .loop in
+    let start = c .before .before .before .before .before .before .before .before .before .before in
+    let byte = c .before .before .before .before .before .before .before .byte in
+    let join-next = c .before .before .before .join-next in
+    let w = turn .inv in
+    let l : turn .c + 1 < columns-of (device-of (start .args .«record» .now)) = omega (arith, columns-byte (start .args .«record» .now) (start .pre .1) (byte .result) (byte .ensures .is)) in
     rw (c .byte2 .ensures .is)
-    (walking-on (c .before .before .before .before .before .before .before .before .before .before .args .«record» .now) (c .before .before .before .before .before .before .before .before .before .before .pre .1) (c .before .before .before .before .before .before .before .before .before .before .args .parents .now) (c .before .before .before .before .before .before .loop .parents) (c .before .before .before .before .before .before .loop .joins) (c .before .before .before .before .before .before .loop .base) (c .before .before .before .before .before .before .loop .c) w l (c .before .before .before .before .before .before .before .before .before .before .pre .2)
-    (c .before .before .before .join-next .last .0) (c .before .before .before .join-next .result) (c .before .before .before .join-next .ensures .1) (c .before .before .before .join-next .ensures .0))
+    (walking-on (start .args .«record» .now) (start .pre .1) (start .args .parents .now) (turn .parents) (turn .joins) (turn .base) (turn .c) w l (start .pre .2)
+    (join-next .last .0) (join-next .result) (join-next .ensures .1) (join-next .ensures .0))
 
 same-length : tie.Need-same-length Inv-loop μ-loop
 same-length c = c .before .loop .inv .size
 
 returns : tie.Need-returns Inv-loop μ-loop
-returns c = walking-end (c .before .before .before .before .before .args .«record» .now) (c .before .before .before .before .before .pre .1) (c .before .before .before .before .before .args .parents .now) (c .before .loop .parents) (c .before .loop .joins) (c .before .loop .base) (c .before .loop .c) (c .before .loop .inv) (omega (arith, columns-byte (c .before .before .before .before .before .args .«record» .now) (c .before .before .before .before .before .pre .1) (c .before .before .byte .result) (c .before .before .byte .ensures .is)))
+returns c =
+    let start = c .before .before .before .before .before in
+    let byte = c .before .before .byte in
+    walking-end (start .args .«record» .now) (start .pre .1) (start .args .parents .now) (c .before .loop .parents) (c .before .loop .joins) (c .before .loop .base) (c .before .loop .c) (c .before .loop .inv) (omega (arith, columns-byte (start .args .«record» .now) (start .pre .1) (byte .result) (byte .ensures .is)))
 
 pub join-all-spec : {M : Type 1} → statement M
 join-all-spec =

@@ -22,20 +22,31 @@ byte-requires : tie.Need-byte-requires Inv-loop μ-loop
 byte-requires c κs = omega (arith, sound-length (c .before .args .«record» .now) (c .before .pre))
 
 loop-holds : tie.Need-loop-holds Inv-loop μ-loop
-loop-holds c = (omega arith, sym (base-zero (runs-of (c .before .before .args .«record» .now))))
+loop-holds c =
+    let start = c .before .before in
+    (omega arith, sym (base-zero (runs-of (start .args .«record» .now))))
 
 add-byte : tie.Need-add-byte Inv-loop μ-loop
-add-byte c = omega (arith, columns-byte (c .before .before .before .before .args .«record» .now) (c .before .before .before .before .pre) _ (c .before .before .byte .ensures .is), few-columns (c .before .before .before .before .args .«record» .now) (c .before .before .before .before .pre))
+add-byte c =
+    let start = c .before .before .before .before in
+    let byte = c .before .before .byte in
+    omega (arith, columns-byte (start .args .«record» .now) (start .pre) _ (byte .ensures .is), few-columns (start .args .«record» .now) (start .pre))
 
 byte-requires-2 : tie.Need-byte-requires-2 Inv-loop μ-loop
-byte-requires-2 c κs = omega (arith, columns-byte (c .before .before .before .before .args .«record» .now) (c .before .before .before .before .pre) _ (c .before .before .byte .ensures .is), few-columns (c .before .before .before .before .args .«record» .now) (c .before .before .before .before .pre), sound-length (c .before .before .before .before .args .«record» .now) (c .before .before .before .before .pre))
+byte-requires-2 c κs =
+    let start = c .before .before .before .before in
+    let byte = c .before .before .byte in
+    omega (arith, columns-byte (start .args .«record» .now) (start .pre) _ (byte .ensures .is), few-columns (start .args .«record» .now) (start .pre), sound-length (start .args .«record» .now) (start .pre))
 
 add-n : tie.Need-add-n Inv-loop μ-loop
 add-n c =
-    let r = c .before .before .before .before .before .args .«record» .now in
-    let s = c .before .before .before .before .before .pre in
-    let e = columns-byte r s (c .before .before .before .byte .result) (c .before .before .before .byte .ensures .is) in
-    omega (arith, e, few-columns r s, c .before .before .loop .inv .1, base-few r s (c .before .before .loop .c) (omega (arith, e, few-columns r s)), c .byte2 .ensures .small)
+    let start = c .before .before .before .before .before in
+    let byte = c .before .before .before .byte in
+    let turn = c .before .before .loop in
+    let r = start .args .«record» .now in
+    let s = start .pre in
+    let e = columns-byte r s (byte .result) (byte .ensures .is) in
+    omega (arith, e, few-columns r s, turn .inv .1, base-few r s (turn .c) (omega (arith, e, few-columns r s)), c .byte2 .ensures .small)
 
 add-c : tie.Need-add-c Inv-loop μ-loop
 add-c c = omega arith
@@ -45,16 +56,21 @@ loop-less c = omega arith
 
 loop-again : tie.Need-loop-again Inv-loop μ-loop
 loop-again c =
-    let r = c .before .before .before .before .before .args .«record» .now in
-    let s = c .before .before .before .before .before .pre in
-    let k : c .before .before .loop .c < columns-of (device-of r) = omega (arith, columns-byte r s _ (c .before .before .before .byte .ensures .is)) in
-    (omega arith, total-step r s (c .before .before .loop .n) (c .before .before .loop .c) (c .byte2 .result) k (c .before .before .loop .inv .1) (c .byte2 .ensures .is))
+    let start = c .before .before .before .before .before in
+    let turn = c .before .before .loop in
+    let byte = c .before .before .before .byte in
+    let r = start .args .«record» .now in
+    let s = start .pre in
+    let k : turn .c < columns-of (device-of r) = omega (arith, columns-byte r s _ (byte .ensures .is)) in
+    (omega arith, total-step r s (turn .n) (turn .c) (c .byte2 .result) k (turn .inv .1) (c .byte2 .ensures .is))
 
 returns : tie.Need-returns Inv-loop μ-loop
 returns c =
-    let r = c .before .before .before .before .args .«record» .now in
-    let s = c .before .before .before .before .pre in
-    let e : c .before .loop .c ≡ columns-of (device-of r) = omega (arith, columns-byte r s (c .before .before .byte .result) (c .before .before .byte .ensures .is)) in
+    let start = c .before .before .before .before in
+    let byte = c .before .before .byte in
+    let r = start .args .«record» .now in
+    let s = start .pre in
+    let e : c .before .loop .c ≡ columns-of (device-of r) = omega (arith, columns-byte r s (byte .result) (byte .ensures .is)) in
     (rw e at (c .before .loop .inv .1), omega (arith, c .before .loop .inv .1, base-few r s (c .before .loop .c) (omega (arith, e, few-columns r s)), e, few-columns r s))
 
 pub total-spec : {M : Type 1} → statement M

@@ -45,8 +45,9 @@ part-free-in-end c = omega (arith, place (c .before .before))
 
 free-in-requires : tie.Need-free-in-requires
 free-in-requires c κs =
+    let before = c .before .before .before in
     let count = c .before .byte .ensures .is in
-    let start = c .before .before .before in
+    let start = before in
     let s = start .pre .0 in
     let on = place start .0 in
     (part-with _ s _ _ on count, rw count (listed-canon _ s _ on))
@@ -56,12 +57,14 @@ height-at-requires c κs = search needs
 
 div-result : tie.Need-div-result
 div-result c =
-    let start = c .before .before .before .before .before in
+    let before = c .before .before .before .before .before in
+    let start = before in
     omega (arith, c .height-at .ensures, height-pos (kind (device-of (start .args .«record» .now)) (start .args .c)))
 
 returns : tie.Need-returns
 returns c =
-    let count = c .before .before .before .byte .ensures .is in
+    let byte = c .before .before .before .byte in
+    let count = byte .ensures .is in
     let half-rows = c .before .free-in in (
       ap₂ (λ (y z : ℕ). y / z) (rw count at (half-rows .ensures .0)) (c .height-at .ensures),
       omega (arith, div-le-self (half-rows .result) (c .height-at .result), half-rows .ensures .1),

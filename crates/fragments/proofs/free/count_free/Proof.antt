@@ -27,10 +27,17 @@ unfolding sum-below
 loop-holds c = (omega arith, refl, omega arith)
 
 column-free-requires : tie.Need-column-free-requires Inv-loop μ-loop
-column-free-requires c κs = (c .before .before .before .before .pre, omega (arith, columns-byte (c .before .before .before .before .args .«record» .now) (c .before .before .before .before .pre) (c .before .before .byte .result) (c .before .before .byte .ensures .is)))
+column-free-requires c κs =
+    let start = c .before .before .before .before in
+    let byte = c .before .before .byte in
+    (start .pre, omega (arith, columns-byte (start .args .«record» .now) (start .pre) (byte .result) (byte .ensures .is)))
 
 add-n : tie.Need-add-n Inv-loop μ-loop
-add-n c = omega (arith, c .before .before .loop .inv .2, c .column-free .ensures .1, columns-byte (c .before .before .before .before .before .args .«record» .now) (c .before .before .before .before .before .pre) (c .before .before .before .byte .result) (c .before .before .before .byte .ensures .is), few-columns (c .before .before .before .before .before .args .«record» .now) (c .before .before .before .before .before .pre))
+add-n c =
+    let turn = c .before .before .loop in
+    let start = c .before .before .before .before .before in
+    let byte = c .before .before .before .byte in
+    omega (arith, turn .inv .2, c .column-free .ensures .1, columns-byte (start .args .«record» .now) (start .pre) (byte .result) (byte .ensures .is), few-columns (start .args .«record» .now) (start .pre))
 
 add-c : tie.Need-add-c Inv-loop μ-loop
 add-c c = omega arith
@@ -40,18 +47,23 @@ loop-less c = omega arith
 
 loop-again : tie.Need-loop-again Inv-loop μ-loop
 loop-again c =
-    let l : c .before .before .loop .c < columns-of (device-of (c .before .before .before .before .before .args .«record» .now)) = omega (arith, columns-byte (c .before .before .before .before .before .args .«record» .now) (c .before .before .before .before .before .pre) (c .before .before .before .byte .result) (c .before .before .before .byte .ensures .is)) in (
+    let turn = c .before .before .loop in
+    let start = c .before .before .before .before .before in
+    let byte = c .before .before .before .byte in
+    let l : turn .c < columns-of (device-of (start .args .«record» .now)) = omega (arith, columns-byte (start .args .«record» .now) (start .pre) (byte .result) (byte .ensures .is)) in (
       omega arith,
-      rw (c .column-free .ensures .0) (column-free (c .before .before .before .before .before .args .«record» .now) (c .before .before .before .before .before .pre) (c .before .before .loop .c) _ (c .before .before .loop .n) _ l refl refl (c .before .before .loop .inv .1)),
-      omega (arith, c .before .before .loop .inv .2, c .column-free .ensures .1),
+      rw (c .column-free .ensures .0) (column-free (start .args .«record» .now) (start .pre) (turn .c) _ (turn .n) _ l refl refl (turn .inv .1)),
+      omega (arith, turn .inv .2, c .column-free .ensures .1),
     )
 
 returns : tie.Need-returns Inv-loop μ-loop
 returns c =
-    let r = c .before .before .before .before .args .«record» .now in
-    let e : c .before .loop .c ≡ columns-of (device-of r) = omega (arith, columns-byte (c .before .before .before .before .args .«record» .now) (c .before .before .before .before .pre) (c .before .before .byte .result) (c .before .before .byte .ensures .is)) in (
+    let start = c .before .before .before .before in
+    let byte = c .before .before .byte in
+    let r = start .args .«record» .now in
+    let e : c .before .loop .c ≡ columns-of (device-of r) = omega (arith, columns-byte (start .args .«record» .now) (start .pre) (byte .result) (byte .ensures .is)) in (
       (rw e at (c .before .loop .inv .1)) ∙ sym (free-spans (device-of r) (book-of r)),
-      omega (arith, c .before .loop .inv .2, e, few-columns r (c .before .before .before .before .pre)),
+      omega (arith, c .before .loop .inv .2, e, few-columns r (start .pre)),
     )
 
 pub count-free-spec : {M : Type 1} → statement M

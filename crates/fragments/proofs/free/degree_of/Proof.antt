@@ -15,7 +15,9 @@ returns c = (rw (le-leb (c .before .args .free) 1 (c .if1 .taken)), omega arith)
 
 returns-2 : tie.Need-returns-2
 unfolding degree
-returns-2 c = (rw (c .if2 .taken, lt-leb (c .before .before .args .free) 1 (c .before .if1 .left)) (sym (zero-div _)), omega arith)
+returns-2 c =
+    let start = c .before .before in
+    (rw (c .if2 .taken, lt-leb (start .args .free) 1 (c .before .if1 .left)) (sym (zero-div _)), omega arith)
 
 sub-result : tie.Need-sub-result
 sub-result c = search needs
@@ -31,10 +33,11 @@ div-result c = search needs
 
 returns-3 : tie.Need-returns-3
 unfolding degree
-returns-3 c = (
-  rw (lt-leb (c .before .before .args .free) 1 (c .before .if1 .left)),
-  omega (arith, div-le-self (10000 * (c .before .before .args .sets - 1)) (c .before .before .args .free - 1)),
-)
+returns-3 c =
+    let start = c .before .before in (
+      rw (lt-leb (start .args .free) 1 (c .before .if1 .left)),
+      omega (arith, div-le-self (10000 * (start .args .sets - 1)) (start .args .free - 1)),
+    )
 
 pub degree-of-spec : {M : Type 1} → statement M
 degree-of-spec =

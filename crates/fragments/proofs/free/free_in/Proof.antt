@@ -16,13 +16,22 @@ loop-holds : tie.Need-loop-holds Inv-loop μ-loop
 loop-holds c = summing-start (c .before .args .part .now) (c .before .args .count) (c .before .pre .1)
 
 read-requires : tie.Need-read-requires Inv-loop μ-loop
-read-requires c κs = (c .before .before .before .pre .0 .size, omega (arith, c .before .before .before .pre .0 .few))
+read-requires c κs =
+    let start = c .before .before .before in
+    (start .pre .0 .size, omega (arith, start .pre .0 .few))
 
 sub-n : tie.Need-sub-n Inv-loop μ-loop
-sub-n c = summing-order (c .before .before .before .before .before .args .part .now) (c .before .before .before .before .before .args .count) (c .before .before .before .loop .n) (c .before .before .before .loop .i) (c .before .before .before .loop .inv) (c .before .before .loop-test .taken) (c .before .read .result) (c .before .read .ensures)
+sub-n c =
+    let start = c .before .before .before .before .before in
+    let turn = c .before .before .before .loop in
+    let test = c .before .before .loop-test in
+    summing-order (start .args .part .now) (start .args .count) (turn .n) (turn .i) (turn .inv) (test .taken) (c .before .read .result) (c .before .read .ensures)
 
 add-n : tie.Need-add-n Inv-loop μ-loop
-add-n c = omega (arith, c .before .before .before .loop .inv .few, c .before .read .ensures .top-small, c .before .before .before .before .before .pre .0 .few)
+add-n c =
+    let turn = c .before .before .before .loop in
+    let start = c .before .before .before .before .before in
+    omega (arith, turn .inv .few, c .before .read .ensures .top-small, start .pre .0 .few)
 
 add-i : tie.Need-add-i Inv-loop μ-loop
 add-i c = omega arith
@@ -31,13 +40,18 @@ loop-less : tie.Need-loop-less Inv-loop μ-loop
 loop-less c = omega arith
 
 loop-again : tie.Need-loop-again Inv-loop μ-loop
-loop-again c = summing-on (c .before .before .before .before .before .args .part .now) (c .before .before .before .before .before .args .count) (c .before .before .before .loop .n) (c .before .before .before .loop .i) (c .before .before .before .loop .inv) (c .before .before .loop-test .taken) (c .before .read .result) (c .before .read .ensures)
+loop-again c =
+    let start = c .before .before .before .before .before in
+    let turn = c .before .before .before .loop in
+    let test = c .before .before .loop-test in
+    summing-on (start .args .part .now) (start .args .count) (turn .n) (turn .i) (turn .inv) (test .taken) (c .before .read .result) (c .before .read .ensures)
 
 returns : tie.Need-returns Inv-loop μ-loop
-returns c = (
-  summing-end (c .before .before .before .args .part .now) (c .before .before .before .args .count) (c .before .loop .n) (c .before .loop .i) (c .before .loop .inv) (c .loop-test .left),
-  omega (arith, c .before .loop .inv .few, c .before .loop .inv .on, c .before .before .before .pre .0 .few),
-)
+returns c =
+    let start = c .before .before .before in (
+      summing-end (start .args .part .now) (start .args .count) (c .before .loop .n) (c .before .loop .i) (c .before .loop .inv) (c .loop-test .left),
+      omega (arith, c .before .loop .inv .few, c .before .loop .inv .on, start .pre .0 .few),
+    )
 
 pub free-in-spec : {M : Type 1} → statement M
 free-in-spec =

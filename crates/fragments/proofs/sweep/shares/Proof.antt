@@ -6,11 +6,16 @@ use Rattle.fragments.proofs.sweep.shares.Tie as tie
 
 returns : tie.Need-returns
 unfolding shares
-returns c = rw (lt-ltb (c .before .before .before .before .before .args .x .bottom) (c .before .before .before .before .before .args .y .top) (c .before .before .if1 .taken))
+returns c =
+    let start = c .before .before .before .before .before in
+    let first = c .before .before .if1 in
+    rw (lt-ltb (start .args .x .bottom) (start .args .y .top) (first .taken))
 
 returns-2 : tie.Need-returns-2
 unfolding shares
-returns-2 c = rw (le-ltb (c .before .before .before .args .x .bottom) (c .before .before .before .args .y .top) (c .if1 .left))
+returns-2 c =
+    let start = c .before .before .before in
+    rw (le-ltb (start .args .x .bottom) (start .args .y .top) (c .if1 .left))
 
 pub shares-spec : {M : Type 1} → statement M
 shares-spec = tie.close (tie.spec returns returns-2)
