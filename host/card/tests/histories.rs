@@ -67,6 +67,11 @@ fn assert_same(card: &Card, book: &Book) {
         });
         assert!(given.eq(wanted), "column {column}");
     }
+    let given = card.fragmentation().expect("a sound card");
+    let given = [given.sets, given.free_cells, given.degree];
+    let wanted = book.fragmentation();
+    let wanted = [wanted.sets, wanted.free, wanted.degree];
+    assert_eq!(given.map(i64::from), wanted);
 }
 
 /// The positions of a task's listing are those of the book, in order.

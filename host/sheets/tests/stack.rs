@@ -72,3 +72,10 @@ fn the_limit_is_kept() {
     let run = run(TOO_LITTLE, head().as_bytes());
     assert_eq!(run.status.signal(), Some(SEGMENTATION_FAULT));
 }
+
+#[test]
+fn the_readme_states_the_limit() {
+    let readme = include_str!("../../../README.md");
+    let figure = format!("{STACK} KiB");
+    assert!(readme.contains(&figure), "README has no {figure}");
+}

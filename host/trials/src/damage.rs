@@ -10,7 +10,7 @@ use oracle::rng::Rng;
 use oracle::task::BLOCK_SIZE;
 use oracle::{sound, Book, Refusal};
 
-use crate::pair::{run, Pair};
+use crate::pair::{fragmentation, run, Pair};
 use crate::{ensure, Mismatch, Trial};
 
 /// How many records were sound, and how many were not.
@@ -55,6 +55,7 @@ pub fn judge(subject: &dyn Calls, bytes: &[u8], calls: &[Call]) -> Trial<bool> {
                 pair.clone().call(call)?;
             }
             pair.count(0)?;
+            pair.fragmentation()?;
             Ok(true)
         }
         Err(unsound) => {
@@ -81,6 +82,11 @@ fn refuses(subject: &dyn Calls, bytes: &[u8], calls: &[Call], number: i32) -> Tr
     let count = subject.interval_count(&record, 0);
     ensure(count == number && record == bytes, || {
         format!("not sound, {number}, yet interval count answers {count}")
+    })?;
+    // It writes two numbers all the same, and these are 0.
+    let broken_up = fragmentation(subject, &record);
+    ensure(broken_up == [number, 0, 0] && record == bytes, || {
+        format!("not sound, {number}, yet fragmentation gives {broken_up:?}")
     })
 }
 

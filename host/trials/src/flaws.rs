@@ -165,6 +165,17 @@ fn blocks(record: &[u8], index: usize) -> Vec<Block> {
     read_blocks(&entry[BLOCKS_AT..end]).unwrap_or_default()
 }
 
+/// The first block of a running task that something holds of, given the bottom of its task: the task's place among
+/// the running ones, and the block's in the task.
+fn running_block(record: &[u8], holds: impl Fn(i16, &Block) -> bool) -> Option<(usize, usize)> {
+    (0..running(record)).find_map(|index| {
+        let bottom = word(&record[entry_part(index)], ENTRY_BOTTOM_AT) as i16;
+        let blocks = blocks(record, index);
+        let at = blocks.iter().position(|block| holds(bottom, block))?;
+        Some((index, at))
+    })
+}
+
 /// Writes the blocks of a running task.
 fn put_blocks(record: &mut [u8], index: usize, blocks: &[Block]) {
     let entry = &mut record[entry_part(index)];
@@ -175,14 +186,8 @@ fn put_blocks(record: &mut [u8], index: usize, blocks: &[Block]) {
 
 /// A block in two that touch: the cells are the same.
 fn touching_blocks(record: &mut [u8]) -> Option<()> {
-    let tall = |block: &Block| block.top - block.bottom > block.kind.height() as i16;
-    let of_task = |index| {
-        blocks(record, index)
-            .iter()
-            .position(tall)
-            .map(|at| (index, at))
-    };
-    let (index, at) = (0..running(record)).find_map(of_task)?;
+    let tall = |_, block: &Block| block.top - block.bottom > block.kind.height() as i16;
+    let (index, at) = running_block(record, tall)?;
     let mut blocks = blocks(record, index);
     let block = blocks[at];
     let middle = block.bottom + block.kind.height() as i16;
@@ -215,19 +220,12 @@ fn first_bottom_not_0(record: &mut [u8]) -> Option<()> {
 /// A block that ends with its column, and then one cell above: there is no such cell to be held.
 fn over_the_top(record: &mut [u8]) -> Option<()> {
     let rows = u32::from(word(record, ROWS_AT));
-    let highest = |index: usize| {
-        let bottom = word(&record[entry_part(index)], ENTRY_BOTTOM_AT) as i16;
-        let ends = |block: &Block| {
-            let height = block.kind.height() as i16;
-            let end = height * block.kind.cells(rows) as i16;
-            bottom + block.top == end && i64::from(block.top + height) <= REACH
-        };
-        blocks(record, index)
-            .iter()
-            .position(ends)
-            .map(|at| (index, at))
+    let highest = |bottom, block: &Block| {
+        let height = block.kind.height() as i16;
+        let end = height * block.kind.cells(rows) as i16;
+        bottom + block.top == end && i64::from(block.top + height) <= REACH
     };
-    let (index, at) = (0..running(record)).find_map(highest)?;
+    let (index, at) = running_block(record, highest)?;
     let mut blocks = blocks(record, index);
     blocks[at].top += blocks[at].kind.height() as i16;
     put_blocks(record, index, &blocks);

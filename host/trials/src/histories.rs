@@ -1,4 +1,4 @@
-//! Random histories: after every call the answer, the output and the record are the book's.
+//! Random histories: after every call the answer, the output, the record and its fragmentation are the book's.
 
 use std::collections::BTreeMap;
 
@@ -68,6 +68,8 @@ fn go_on(mut pair: Pair, rng: &mut Rng, mood: Mood, calls: usize) -> Trial<Answe
             .call(&call)
             .map_err(|what| Mismatch(format!("call {index}: {what}")))?;
         *answers.entry(answer.min(1)).or_default() += 1;
+        pair.fragmentation()
+            .map_err(|what| Mismatch(format!("after call {index}: {what}")))?;
         if rng.percent(10) {
             pair.count(rng.below(66) as u32)?;
         }

@@ -12,6 +12,7 @@
 //! - [`damage`]: damaged records, wrong lengths, random bytes;
 //! - [`flaws`]: records in which one sentence alone does not hold;
 //! - [`small`]: small cards exhaustively;
+//! - [`fragments`]: cards that are broken up, as labyrinths and at the limits;
 //! - [`limits`]: cards, tasks and arguments at the limits.
 
 #![deny(missing_docs)]
@@ -19,6 +20,7 @@
 
 pub mod damage;
 pub mod flaws;
+pub mod fragments;
 pub mod histories;
 pub mod limits;
 pub mod pair;

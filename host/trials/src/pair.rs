@@ -1,6 +1,9 @@
 //! A record, changed by the implementation on trial, and the oracle's book, side by side.
 
+use std::cell::OnceCell;
+
 use calls::Calls;
+use oracle::fragments::Fragmentation;
 use oracle::history::{Call, Outcome};
 use oracle::layout::RECORD_SIZE;
 use oracle::record::record_of;
@@ -11,6 +14,9 @@ use crate::{ensure, Trial};
 /// The byte that a record is full of before new.
 const JUNK: u8 = 0xA5;
 
+/// What the two numbers of fragmentation are before it writes them.
+const JUNK_NUMBERS: (i32, i32) = (0x5A5A_5A5A, -0x5A5A_5A5A);
+
 /// A record and the book that it must be the record of.
 #[derive(Clone)]
 pub struct Pair<'a> {
@@ -19,6 +25,8 @@ pub struct Pair<'a> {
     record: Vec<u8>,
     /// The book's record, kept so that it is made once for each change.
     expected: Vec<u8>,
+    /// How broken up the book is, counted once for each change, and only where it is asked for.
+    broken_up: OnceCell<Fragmentation>,
 }
 
 /// Runs a call of a history on a record.
@@ -40,6 +48,13 @@ pub fn run(subject: &dyn Calls, call: &Call, record: &mut [u8]) -> Outcome {
     }
 }
 
+/// What fragmentation answers for a record and writes: the answer, the free cells, the degree.
+pub fn fragmentation(subject: &dyn Calls, record: &[u8]) -> [i32; 3] {
+    let (mut free, mut degree) = JUNK_NUMBERS;
+    let answer = subject.fragmentation(record, &mut free, &mut degree);
+    [answer, free, degree]
+}
+
 /// The first byte that differs, for messages.
 pub fn first_difference(left: &[u8], right: &[u8]) -> String {
     match left.iter().zip(right).position(|(a, b)| a != b) {
@@ -54,13 +69,7 @@ impl<'a> Pair<'a> {
         let mut record = vec![JUNK; RECORD_SIZE];
         let answer = subject.new(&mut record, device.rows(), &device.kind_bytes());
         ensure(answer == 0, || format!("new answers {answer} and not 0"))?;
-        let book = Book::on(device);
-        let pair = Pair {
-            expected: record_of(&book),
-            subject,
-            book,
-            record,
-        };
+        let pair = Pair::on_record(subject, Book::on(device), record);
         pair.check_record("new")?;
         Ok(pair)
     }
@@ -75,6 +84,7 @@ impl<'a> Pair<'a> {
     pub fn on_record(subject: &'a dyn Calls, book: Book, record: Vec<u8>) -> Pair<'a> {
         Pair {
             expected: record_of(&book),
+            broken_up: OnceCell::new(),
             subject,
             book,
             record,
@@ -93,6 +103,7 @@ impl<'a> Pair<'a> {
         let changes = matches!(call, Call::Place { .. } | Call::Release { .. });
         if changes && wanted.answer == 0 {
             self.expected = record_of(&self.book);
+            self.broken_up = OnceCell::new();
         }
         ensure(given.answer == wanted.answer, || {
             let (given, wanted) = (given.answer, wanted.answer);
@@ -119,6 +130,16 @@ impl<'a> Pair<'a> {
             format!("interval count of column {column} is {given} and not {wanted}")
         })?;
         Ok(given)
+    }
+
+    /// Asks both how broken up the card is, and compares all three numbers and the whole record.
+    pub fn fragmentation(&self) -> Trial<Fragmentation> {
+        let given = fragmentation(self.subject, &self.record);
+        let wanted = self.broken_up.get_or_init(|| self.book.fragmentation());
+        let same = given.map(i64::from) == [wanted.sets, wanted.free, wanted.degree];
+        ensure(same, || format!("fragmentation: {given:?}, not {wanted:?}"))?;
+        self.check_record("fragmentation")?;
+        Ok(*wanted)
     }
 
     /// The record is the book's, byte for byte.

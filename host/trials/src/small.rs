@@ -154,7 +154,7 @@ fn key(book: &Book) -> Key {
     book.running().iter().map(entry).collect()
 }
 
-/// Makes every call on every book that histories over the calls lead to.
+/// Makes every call on every book that histories over the calls lead to, and asks each how broken up it is.
 ///
 /// Since the record is the book's after every call, and a call sees nothing but
 /// its arguments, this covers every history over these calls, of any length.
@@ -165,6 +165,7 @@ pub fn every_book(subject: &dyn Calls, device: &Device, calls: &[Call]) -> Trial
     let mut coverage = Coverage::default();
     while let Some(pair) = open.pop() {
         coverage.books += 1;
+        pair.fragmentation()?;
         let mut next = pair.clone();
         for call in calls {
             coverage.calls += 1;

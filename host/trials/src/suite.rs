@@ -11,7 +11,7 @@ use oracle::Device;
 use crate::histories::Answers;
 use crate::pair::Pair;
 use crate::small::Cards;
-use crate::{damage, ensure, flaws, histories, limits, shapes, small, Trial};
+use crate::{damage, ensure, flaws, fragments, histories, limits, shapes, small, Trial};
 
 /// How much a trial does.
 #[derive(Clone, Copy, Debug, PartialEq, Eq)]
@@ -67,6 +67,8 @@ macro_rules! for_every_trial {
             tasks_of_full_height_and_width
             sixty_four_tasks_of_32_blocks
             arguments_past_their_limits
+            cards_like_labyrinths
+            cards_broken_up_at_the_limits
         }
     };
 }
@@ -253,4 +255,14 @@ fn sixty_four_tasks_of_32_blocks(subject: &dyn Calls, size: Size) -> Trial<()> {
 fn arguments_past_their_limits(subject: &dyn Calls, size: Size) -> Trial<()> {
     let refused = limits::past_the_limits(subject)?;
     worth(size, refused > 320, refused)
+}
+
+fn cards_like_labyrinths(subject: &dyn Calls, size: Size) -> Trial<()> {
+    let most = fragments::labyrinths(subject, 14, size.of(40, 1500))?;
+    worth(size, most > 500, most)
+}
+
+fn cards_broken_up_at_the_limits(subject: &dyn Calls, size: Size) -> Trial<()> {
+    let most = fragments::at_the_limits(subject)?;
+    worth(size, most == 64 * 32, most)
 }

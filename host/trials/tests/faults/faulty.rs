@@ -52,6 +52,9 @@ impl Past {
 /// List, done otherwise: record, task and output.
 pub type List = fn(&dyn Calls, &[u8], &[u8], &mut [u8]) -> i32;
 
+/// Fragmentation, done otherwise: record, free cells and degree.
+pub type Fragmentation = fn(&dyn Calls, &[u8], &mut i32, &mut i32) -> i32;
+
 /// What is wrong: a call done otherwise, or a record or a task judged otherwise. Each function is given
 /// the right implementation first.
 pub enum Wrong {
@@ -61,6 +64,7 @@ pub enum Wrong {
     List(List),
     Choose(fn(&dyn Calls, &[u8], &[u8]) -> i32),
     Count(fn(&dyn Calls, &[u8], u32) -> i32),
+    Fragmentation(Fragmentation),
     /// A record that is to be refused is taken for this one.
     TakesRecord(fn(&[u8]) -> Vec<u8>),
     /// A sound record is refused.
@@ -230,6 +234,18 @@ impl Calls for Faulty<'_> {
         match instead!(self, Wrong::Count) {
             Some(count) => count(self.right, record, column),
             None => self.right.interval_count(record, column),
+        }
+    }
+
+    fn fragmentation(&self, record: &[u8], free: &mut i32, degree: &mut i32) -> i32 {
+        if let Some(answer) = self.refused(record, None) {
+            (*free, *degree) = (0, 0);
+            return answer;
+        }
+        let record = &self.taken(record);
+        match instead!(self, Wrong::Fragmentation) {
+            Some(fragmentation) => fragmentation(self.right, record, free, degree),
+            None => self.right.fragmentation(record, free, degree),
         }
     }
 }

@@ -3,6 +3,7 @@
 use crate::changes::*;
 use crate::faulty::Fault;
 use crate::faulty::Wrong::*;
+use crate::fragments::*;
 use crate::records::*;
 use crate::searches::*;
 
@@ -63,7 +64,24 @@ faults! {
 
     "interval count takes one column too many": Count(one_column_too_many);
     "interval count cuts the column to 8 bits": Count(count_of_column_cut);
-    "interval count is wrong from 33 on": Count(count_up_to_32);
+    "interval count is wrong from 34 on": Count(count_up_to_33);
+
+    "neighbouring columns never touch": Fragmentation(columns_never_touch);
+    "ends that only meet touch": Fragmentation(ends_touch);
+    "cells that share one half row do not touch": Fragmentation(one_half_row_is_too_little);
+    "columns that are two apart touch": Fragmentation(two_apart_touch);
+    "the last column touches none": Fragmentation(last_column_alone);
+    "columns on both sides of one without a cell touch": Fragmentation(past_no_cells);
+    "every touching pair is one set less": Fragmentation(pairs_counted);
+    "a root is looked for four nodes up at most": Fragmentation(four_nodes_up);
+    "the last column's cells are left out": Fragmentation(without_last_column);
+    "sets are counted in 11 bits": Fragmentation(sets_in_11_bits);
+    "a card without a free cell has one set": Fragmentation(one_set_at_least);
+    "cells of memory are counted as two half rows": Fragmentation(memory_as_logic);
+    "the degree is taken of all free cells": Fragmentation(divided_by_free);
+    "the degree is rounded up": Fragmentation(rounded_up);
+    "one free cell has a degree": Fragmentation(degree_of_one);
+    "fragmentation of a bad record leaves its numbers": Fragmentation(refusal_leaves_numbers);
 
     "a block with top 256 is refused": RefusesTask(has_top_256);
     "a block in column 63 is refused": RefusesTask(has_column_63);

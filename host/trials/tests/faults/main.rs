@@ -3,6 +3,7 @@
 
 mod changes;
 mod faulty;
+mod fragments;
 mod list;
 mod records;
 mod searches;

@@ -259,8 +259,8 @@ pub fn count_of_column_cut(right: &dyn Calls, record: &[u8], column: u32) -> i32
     right.interval_count(record, column % 256)
 }
 
-pub fn count_up_to_32(right: &dyn Calls, record: &[u8], column: u32) -> i32 {
-    right.interval_count(record, column).min(32)
+pub fn count_up_to_33(right: &dyn Calls, record: &[u8], column: u32) -> i32 {
+    right.interval_count(record, column).min(33)
 }
 
 /// Whether a block of a well-formed task has something about it.
