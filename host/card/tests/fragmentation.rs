@@ -83,37 +83,36 @@ fn a_ring_is_joined_once() {
     assert_eq!(of(5, "CCCCC", &ring), (2, 17, 625));
 }
 
-#[test]
-fn half_of_the_largest_card() {
-    let mut card = Card::new(&Device::from_text(128, &"C".repeat(64)).expect("a device"));
-    // Every other cell of 64 columns: two tasks of 32 blocks would be needed for each, and 64 tasks may run.
-    let tooth =
-        |task: card::TaskBuilder, index: i16| task.block(0, Kind::C, 4 * index, 4 * index + 2);
-    let comb = (0..32).fold(Task::builder(), tooth);
-    let comb = comb.build().expect("32 blocks");
-    for column in 0..32u8 {
-        // Columns side by side hold cells of other rows, so that no two free cells touch.
-        let bottom = 2 * i16::from(column % 2);
-        for (half, number) in [(0, 1), (128, 2)] {
-            let number = 2 * u16::from(column) + number;
-            let placed = card.place(&comb, number, Position::new(column, bottom + half));
-            assert_eq!(placed, Ok(()), "column {column}");
-        }
-    }
-    let found = fragmentation(&card);
-    // 64 free cells in each of 32 columns, and 32 columns that are all free and touch the last of these.
-    let free_cells = 32 * 64 + 32 * 128;
-    let sets = 31 * 64 + 1;
-    let degree = 10_000 * (sets - 1) / (free_cells - 1);
-    let wanted = Fragmentation {
-        sets,
-        free_cells,
-        degree,
-    };
-    assert_eq!(found, wanted);
+/// A task of 32 cells of logic in one column, one cell apart.
+fn comb() -> Task {
+    let tooth = |index: i16| (4 * index, 4 * index + 2);
+    let teeth = (0..32).map(tooth);
+    let task = teeth.fold(Task::builder(), |task, (bottom, top)| {
+        task.block(0, Kind::C, bottom, top)
+    });
+    task.build().expect("32 blocks")
 }
 
-/// Joins the sets of the free half rows of a picture: every one with its neighbours above and to the right.
+#[test]
+fn sixty_four_combs_on_the_largest_card() {
+    let mut card = Card::new(&Device::from_text(128, &"C".repeat(64)).expect("a device"));
+    // Two in each of 32 columns, by turns one cell higher, so that no two free cells touch there.
+    let places = (0..32).flat_map(|column| [0, 128].map(|half| (column, half)));
+    for (number, (column, half)) in (1..).zip(places) {
+        let bottom = half + 2 * i16::from(column % 2);
+        let placed = card.place(&comb(), number, Position::new(column, bottom));
+        assert_eq!(placed, Ok(()), "column {column}");
+    }
+    // 64 sets in each column but the last, which touches the 32 columns that are all free.
+    let wanted = Fragmentation {
+        sets: 31 * 64 + 1,
+        free_cells: 32 * 64 + 32 * 128,
+        degree: 3_229,
+    };
+    assert_eq!(fragmentation(&card), wanted);
+}
+
+/// How many sets the free half rows of a picture make, each joined to its neighbours on all four sides.
 fn sets_drawn(picture: &str) -> usize {
     let lines = picture.lines().skip(1).filter(|line| line.starts_with(' '));
     let symbols = lines.map(|line| line.chars().skip(10).step_by(2).collect());

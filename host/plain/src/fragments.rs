@@ -3,7 +3,6 @@
 //! An interval is connected, and two in neighbouring columns touch where they share a half row. So sets
 //! are counted over intervals: at first each is a set of its own, and every join of two sets is one set less.
 
-use crate::column::intervals;
 use crate::layout::*;
 use crate::record;
 
@@ -84,7 +83,7 @@ pub fn sets(record: &Record) -> u32 {
 /// How many cells of a sound record are free.
 pub fn free_cells(record: &Record) -> u32 {
     let in_column = |column| {
-        let free = intervals(record::part(record, column), record::count(record, column));
+        let free = record::column_intervals(record, column);
         let half_rows: u32 = free.map(|interval| interval.top - interval.bottom).sum();
         half_rows / height(record::kind(record, column))
     };
