@@ -45,7 +45,7 @@ Refused r z c = on-record r c ≡ record { answer = z; output = lent c; state = 
 abbrev pub Uncounted : List ℕ → ℕ → ℤ → Type 0
 Uncounted r k z = (interval-count r k ≡ record { answer = z; output = []; state = r }) × ([] ≡ view r k)
 
--- MODEL 22.6: the fragmentation answers z and two zeros
+-- MODEL 22.6: the fragmentation answers z and two zeros, and changes nothing of the record
 abbrev pub Unmeasured : List ℕ → ℤ → Type 0
 Unmeasured r z = fragmentation r ≡ record { answer = z; free = pos 0; degree = pos 0; state = r }
 

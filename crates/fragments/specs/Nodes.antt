@@ -35,6 +35,6 @@ beside h R c = record {
   right-base = base R (suc c);
 }
 
--- the edges of all neighbouring columns of C
+-- the edges of all neighbouring columns among the first C
 unfoldable pub card-edges : (ℕ → ℕ) → (ℕ → List Interval) → ℕ → List (ℕ × ℕ)
 card-edges h R C = join-below (C - 1) (λ c. edges (beside h R c))

@@ -13,7 +13,7 @@ ghost use Rattle.model.specs.Fragments.{heights, connected-sets};
 ghost use Rattle.model.specs.Record.{device-of, book-of};
 ghost use Rattle.model.specs.Sound.{sound, count-of};
 ghost use Rattle.column.specs.Laws.Lent.{lent};
-ghost use Rattle.sets.specs.Forest.{Room, Joins};
+ghost use Rattle.sets.specs.Forest.{Parents, Joins};
 ghost use Rattle.fragments.specs.Sweep.{edges, sides};
 ghost use Rattle.fragments.specs.Nodes.{base as base-of, card-edges};
 ghost use Rattle.fragments.specs.OnBytes.{runs-of};
@@ -35,7 +35,7 @@ fn total(record: &[u8]) -> usize
 
 // Joins what touches in column c and in the next; `base` is the node of column c's first interval.
 fn join_next(parents: &mut [u16], record: &[u8], c: usize, base: usize) -> u32
-    requires { ⌜ Room (now parents) × (sound (now «record») ≡ true) × (c + 1 < columns-of (device-of (now «record»)))
+    requires { ⌜ Parents (now parents) × (sound (now «record») ≡ true) × (c + 1 < columns-of (device-of (now «record»)))
         × (base + count-of (now «record») c + count-of (now «record») (c + 1) ≤ length (now parents)) ⌝ }
     ensures { λ r. ⌜ Joins (edges (sides (lent (now («record» .entry)) c) (lent (now («record» .entry)) (c + 1)) (count-of (now («record» .entry)) c) (count-of (now («record» .entry)) (c + 1)) base)) (now (parents .entry)) (now (parents .exit)) r
         × (r ≤ count-of (now («record» .entry)) c + count-of (now («record» .entry)) (c + 1)) ⌝ }
@@ -59,7 +59,7 @@ fn join_next(parents: &mut [u16], record: &[u8], c: usize, base: usize) -> u32
 
 // Joins what touches in all neighbouring columns.
 fn join_all(parents: &mut [u16], record: &[u8]) -> u32
-    requires { ⌜ Room (now parents) × (sound (now «record») ≡ true) × (base-of (runs-of (now «record»)) (columns-of (device-of (now «record»))) ≤ length (now parents)) ⌝ }
+    requires { ⌜ Parents (now parents) × (sound (now «record») ≡ true) × (base-of (runs-of (now «record»)) (columns-of (device-of (now «record»))) ≤ length (now parents)) ⌝ }
     ensures { λ r. ⌜ Joins (card-edges (heights (device-of (now («record» .entry)))) (runs-of (now («record» .entry))) (columns-of (device-of (now («record» .entry))))) (now (parents .entry)) (now (parents .exit)) r ⌝ }
 {
     let columns = byte(record, model::COLUMNS_AT);

@@ -32,7 +32,7 @@ fn free_in(part: &[u8], count: usize) -> u32
     n
 }
 
-// MODEL 3.3: the height of the cells of column c.
+// MODEL 3.3: the height of the cells of column c. A sound record has no unknown kind.
 fn height_at(record: &[u8], c: usize) -> u32
     requires { ⌜ (sound (now «record») ≡ true) × (c < columns-of (device-of (now «record»))) ⌝ }
     ensures { λ r. ⌜ r ≡ heights (device-of (now («record» .entry))) c ⌝ }
@@ -69,7 +69,7 @@ pub fn count_free(record: &[u8]) -> u32
     n
 }
 
-// MODEL 22.4: the degree of that many sets of free cells, which is at most the whole for each set.
+// MODEL 22.4: the degree. The bounds only keep it within 32 bits.
 pub fn degree_of(sets: u32, free: u32) -> u32
     requires { ⌜ sets ≤ max-columns * max-intervals ⌝ }
     ensures { λ r. ⌜ (r ≡ degree-from sets free) × (r ≤ whole-degree * (max-columns * max-intervals)) ⌝ }

@@ -7,7 +7,7 @@ ghost use Prim.Native.Nat.{_+_, _≤_, _<_};
 ghost use lib.ListN.{length};
 ghost use Rattle.runs.specs.Intervals.{interval};
 ghost use Rattle.column.specs.Part.{Part};
-ghost use Rattle.sets.specs.Forest.{Room, Joins};
+ghost use Rattle.sets.specs.Forest.{Parents, Joins};
 ghost use Rattle.fragments.specs.Sweep.{shares as sharing, edge-if, edges, sides};
 
 // Do two intervals share a half row?
@@ -19,7 +19,7 @@ fn shares(x: Interval, y: Interval) -> bool
 
 // Makes one set of the sets of the nodes i and j if their intervals share a half row. The answer is 1 if they were two sets.
 fn meet(parents: &mut [u16], x: Interval, y: Interval, i: usize, j: usize) -> u32
-    requires { ⌜ Room (now parents) × (i < length (now parents)) × (j < length (now parents)) ⌝ }
+    requires { ⌜ Parents (now parents) × (i < length (now parents)) × (j < length (now parents)) ⌝ }
     ensures { λ r. ⌜ Joins (edge-if (sharing (interval (x .bottom) (x .top)) (interval (y .bottom) (y .top))) (i, j)) (now (parents .entry)) (now (parents .exit)) r × (r ≤ 1) ⌝ }
 {
     if !shares(x, y) {
@@ -41,7 +41,7 @@ pub fn sweep(
     rights: usize,
     base: usize,
 ) -> u32
-    requires { ⌜ Room (now parents) × Part (now left) lefts × Part (now right) rights × (base + lefts + rights ≤ length (now parents)) ⌝ }
+    requires { ⌜ Parents (now parents) × Part (now left) lefts × Part (now right) rights × (base + lefts + rights ≤ length (now parents)) ⌝ }
     ensures { λ r. ⌜ Joins (edges (sides (now (left .entry)) (now (right .entry)) lefts rights base)) (now (parents .entry)) (now (parents .exit)) r × (r ≤ lefts + rights) ⌝ }
 {
     let mut joins: u32 = 0;

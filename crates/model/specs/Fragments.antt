@@ -1,10 +1,10 @@
 -- MODEL 22: how broken up a card is: which cells touch, the connected sets of the free cells, and the degree.
--- That `connected-sets` is the number of sets that touching joins is proved in Laws.Fragments. Assumes nothing.
+-- That `connected-sets` is the number of sets into which touching joins the free cells is proved in Laws.Fragments. Assumes nothing.
 use Prim.Native.Nat.{ℕ, suc, _-_, _*_, _/_}
 use mathlib.Core.Bool.{Bool, cond, _&&_, _||_}
 use mathlib.Core.List.{List, map}
 use lib.Dec.{ltb, leb, eqb}
-use Rattle.sets.specs.Graph.{sets}
+use Rattle.sets.specs.Graph.{set-count}
 use Rattle.model.specs.Limits.{whole-degree}
 use Rattle.model.specs.Bounded.{join-below, those-below}
 use Rattle.model.specs.Columns.{Device, columns, kind, cells, height}
@@ -51,7 +51,7 @@ free-cells d b = join-below (columns d) (λ c. map (cell c) (those-below (cells 
 
 -- MODEL 22.3: how many connected sets they have
 unfoldable pub connected-sets : Device → Book → ℕ
-connected-sets d b = sets (touch (heights d)) (free-cells d b)
+connected-sets d b = set-count (touch (heights d)) (free-cells d b)
 
 -- MODEL 22.4: the degree of n sets of f free cells
 unfoldable pub degree : ℕ → ℕ → ℕ

@@ -1,4 +1,4 @@
--- MODEL 12, 13, 16 and 22: the calls on any string of bytes. The exported functions promise them (crate `card`), and they are the steps of every history.
+-- MODEL 12, 13, 16 and 22: the calls on any string of bytes, which the exported functions promise (crate `card`). `on-record` is the step of every history.
 -- Assumes nothing.
 use Prim.Native.Nat.{ℕ, _*_}
 use mathlib.Core.Bool.{not}
@@ -59,7 +59,7 @@ pub record Fragmentation : Type 0 where
   pub degree : ℤ
   pub state : List ℕ
 
--- MODEL 22.5: the three numbers of a device and a book
+-- MODEL 22.5: the three numbers of a device and a book, and the record r as it was
 unfoldable pub measured : Device → Book → List ℕ → Fragmentation
 measured d b r =
     let n = connected-sets d b in

@@ -6,7 +6,7 @@ use lib.IntN.{ℤ, pos, negsuc, negℤ}
 use lib.ListN.{replicate}
 use Rattle.runs.specs.Runs.{runs, push}
 use Rattle.runs.specs.Intervals.{intervals as maximal-runs}
-use Rattle.sets.specs.Graph.{touches, met, unmet, classes, sets}
+use Rattle.sets.specs.Graph.{touches, met, unmet, classes, set-count}
 use Rattle.model.specs.Limits.{list-room}
 use Rattle.model.specs.Bounded.{all-below, any-below, sum-below, join-below, those-below, all-in, any-in, sum-in, join-in}
 use Rattle.model.specs.Columns.{Device, height, cells-in, top-in, columns, kind, cells, top}
@@ -216,7 +216,7 @@ unfolding K1 K2 K3 K4 K5 K6 K7 C-2 C-4 B-5 lines-4-6 line-8 K4-task K5-task held
     height cells-in top-in columns kind cells top
     word lifted blocks block sized block-ok follows well-formed step
     placed covers covered held free block-fits fits fits-at intervals holds-cell cell-free
-    touches met unmet classes sets neighbours across touch free-cells connected-sets degree measured
+    touches met unmet classes set-count neighbours across touch free-cells connected-sets degree measured
     ranges lies left-in remaining pieces holder home stretch judge better see climb choice chosen
     bytes16 number-ok lent refused no-position runs-in refusals insert without natural range-bytes over position-number done unless on-book
     trace book-of-history

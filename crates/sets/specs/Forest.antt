@@ -71,12 +71,12 @@ Edge E i j = In (i, j) E ⊎ In (j, i) E
 
 -- ---- what the contracts say
 
--- a node is a number of two bytes
+-- a node is a number of two bytes (the model, above this crate, has this number as `words`)
 abbrev pub max-nodes : ℕ
 max-nodes = 65536
 
 -- P is a forest whose nodes are numbers of two bytes
-pub record Room (P : List ℕ) : Type 0 where
+pub record Parents (P : List ℕ) : Type 0 where
   pub falls : Falls (at P)
   pub few : length P ≤ max-nodes
 

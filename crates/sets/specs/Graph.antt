@@ -26,16 +26,16 @@ module _ {A : Type 0} where
   abbrev pub Joined : (A → A → Type 0) → A → A → Type 0
   Joined T x y = (P : List A) × Leads T x P y
 
-  -- no two of R are related
-  abbrev pub Apart : (A → A → Type 0) → List A → Type 0
-  Apart J [] = Unit {0}
-  Apart J (r ∷ R) = ((s : A) → In s R → J r s → ⊥) × Apart J R
+  -- no two of R are related, where J goes both ways: none to one behind it
+  abbrev pub Unrelated : (A → A → Type 0) → List A → Type 0
+  Unrelated J [] = Unit {0}
+  Unrelated J (r ∷ R) = ((s : A) → In s R → J r s → ⊥) × Unrelated J R
 
 -- R has one node of each set: all are nodes, no two are joined, and every node is joined to one of them.
 -- So the length of R is the number of sets (`same-number` in Laws/Represents: all such lists have one length).
 pub record Represents {A : Type 0} (N : A → Type 0) (J : A → A → Type 0) (R : List A) : Type 0 where
   pub within : (r : A) → In r R → N r
-  pub apart : Apart J R
+  pub apart : Unrelated J R
   pub every : (x : A) → N x → (r : A) × In r R × J x r
 
 module _ {A : Type 0} (touch : A → A → Bool) where
@@ -66,9 +66,9 @@ module _ {A : Type 0} (touch : A → A → Bool) where
   classes (x ∷ L) = (x ∷ met x (classes L)) ∷ unmet x (classes L)
 
   -- how many connected sets the nodes L have
-  unfoldable pub sets : List A → ℕ
-  sets L = length (classes L)
+  unfoldable pub set-count : List A → ℕ
+  set-count L = length (classes L)
 
   -- x and y are nodes of L that touch
-  abbrev pub Step : List A → A → A → Type 0
-  Step L x y = In x L × In y L × (touch x y ≡ true)
+  abbrev pub Touching : List A → A → A → Type 0
+  Touching L x y = In x L × In y L × (touch x y ≡ true)

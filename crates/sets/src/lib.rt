@@ -5,7 +5,7 @@ ghost use mathlib.Core.Bool.{not};
 ghost use Prim.Native.Nat.{_≤_, _<_};
 ghost use lib.Dec.{eqb};
 ghost use lib.ListN.{length};
-ghost use Rattle.sets.specs.Forest.{Falls, at, root as root-of, union, Alone, Room};
+ghost use Rattle.sets.specs.Forest.{Falls, at, root as root-of, union, Alone, Parents};
 
 // A parent as an index.
 fn wide(x: u16) -> usize
@@ -16,8 +16,8 @@ fn wide(x: u16) -> usize
 
 // Makes each of the first n nodes its own parent.
 pub fn set_apart(parents: &mut [u16], n: usize)
-    requires { ⌜ Room (now parents) × (n ≤ length (now parents)) ⌝ }
-    ensures { λ _. ⌜ Alone n (now (parents .exit)) × Room (now (parents .exit)) ⌝ }
+    requires { ⌜ Parents (now parents) × (n ≤ length (now parents)) ⌝ }
+    ensures { λ _. ⌜ Alone n (now (parents .exit)) × Parents (now (parents .exit)) ⌝ }
 {
     let mut i: usize = 0;
     while i < n {
@@ -42,7 +42,7 @@ pub fn root(parents: &[u16], node: usize) -> usize
 
 // Makes one set of the sets of two nodes, and says whether they were two. The higher root goes below the lower.
 pub fn unite(parents: &mut [u16], i: usize, j: usize) -> bool
-    requires { ⌜ Room (now parents) × (i < length (now parents)) × (j < length (now parents)) ⌝ }
+    requires { ⌜ Parents (now parents) × (i < length (now parents)) × (j < length (now parents)) ⌝ }
     ensures { λ r. ⌜ (now (parents .exit) ≡ union (now (parents .entry)) i j)
         × (r ≡ not (eqb (root-of (now (parents .entry)) i) (root-of (now (parents .entry)) j))) ⌝ }
 {

@@ -11,7 +11,7 @@ use Rattle.model.specs.Columns.{Device, columns, kind, cells}
 use Rattle.model.specs.Book.{Book, cell-free}
 use Rattle.model.specs.Fragments.{Cell, heights, free-cells, connected-sets}
 use Rattle.model.specs.Laws.Columns.{height-pos}
-use Rattle.model.specs.Laws.Fragments.{free-cells-are, free-cells-distinct}
+use Rattle.model.specs.Laws.Fragments.{free-on, free-cells-are, free-cells-distinct}
 use Rattle.fragments.specs.Nodes.{free-runs, base, card-edges}
 use Rattle.fragments.specs.Laws.Grid.{card-count}
 
@@ -21,8 +21,11 @@ module _ (d : Device) (b : Book) where
   unfolding free-runs
   free-cells-named x =
       let named = intervals-free (cell-free d b (x .column)) (cells d (x .column)) .named (x .number) in (
-        λ m. let (l, k, t) = free-cells-are d b x .0 m in (l, named .1 (k, t)),
-        λ (l, n). let (k, t) = named .0 n in free-cells-are d b x .1 (l, k, t),
+        λ m.
+            let t = free-cells-are d b x .0 m in
+            let (l, k) = free-on d b (x .column) (x .number) t in
+            (l, named .1 (k, t)),
+        λ (l, n). free-cells-are d b x .1 (named .0 n .1),
       )
 
   pub runs-canon : (c : ℕ) → Apart 0 (free-runs d b c)

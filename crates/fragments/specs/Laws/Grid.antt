@@ -8,7 +8,7 @@ use native.Mathlib.Omega.{arith}
 use lib.ListN.{length}
 use Rattle.runs.specs.Laws.Tests.{lt-or-ge}
 use Rattle.runs.specs.Intervals.{Interval, Named, Apart}
-use Rattle.sets.specs.Graph.{In, Distinct, Joined, sets, Step}
+use Rattle.sets.specs.Graph.{In, Distinct, Joined, set-count, Touching}
 use Rattle.sets.specs.Forest.{Alone, Below, Edge, merges}
 use Rattle.sets.specs.Laws.Joined.{joined-refl, joined-step, joined-trans, joined-sym}
 use Rattle.sets.specs.Laws.Groups.{Grouped}
@@ -89,7 +89,7 @@ module _ (C : ℕ) (h : ℕ → ℕ) (pos : (c : ℕ) → 1 ≤ h c) (R : ℕ �
       (rw eg (base-below R C c i (omega arith) li), rw ek (base-below R C (suc c) j l lj))
 
   module _ (L : List Cell) (free : (x : Cell) → In x L ↔ ((x .column < C) × Named (x .number) (R (x .column)))) (d : Distinct L) where
-    step-of : (x y : Cell) (g k : ℕ) → Of x g → Of y k → Neighbours x y ⊎ Across h x y → Step (touch h) L x y
+    step-of : (x y : Cell) (g k : ℕ) → Of x g → Of y k → Neighbours x y ⊎ Across h x y → Touching (touch h) L x y
     step-of x y g k p q t = (is x g p, is y k q, touch-of h x y t)
       where
         is : (z : Cell) (f : ℕ) → Of z f → In z L
@@ -115,34 +115,34 @@ module _ (C : ℕ) (h : ℕ → ℕ) (pos : (c : ℕ) → 1 ≤ h c) (R : ℕ �
 
     -- cells of one run are joined
     climb : (c i k n : ℕ) → c < C → i < length (R c) → Within k (run-at R c i) → Within (k + n) (run-at R c i)
-        → Joined (Step (touch h) L) (cell c k) (cell c (k + n))
-    climb c i k zero l m v w = let e : k + 0 ≡ k = omega arith in rw e (joined-refl (Step (touch h) L) (cell c k))
+        → Joined (Touching (touch h) L) (cell c k) (cell c (k + n))
+    climb c i k zero l m v w = let e : k + 0 ≡ k = omega arith in rw e (joined-refl (Touching (touch h) L) (cell c k))
     climb c i k (suc n) l m v w =
         let u : Within (k + n) (run-at R c i) = (omega arith, omega arith) in
-        joined-trans (Step (touch h) L) (cell c k) (cell c (k + n)) (cell c (k + suc n))
+        joined-trans (Touching (touch h) L) (cell c k) (cell c (k + n)) (cell c (k + suc n))
         (climb c i k n l m v u)
-        (joined-step (Step (touch h) L) (cell c (k + n)) (cell c (k + suc n))
+        (joined-step (Touching (touch h) L) (cell c (k + n)) (cell c (k + suc n))
         (step-of (cell c (k + n)) (cell c (k + suc n)) (base R c + i) (base R c + i) (l, (i, m, refl, u)) (l, (i, m, refl, w)) (inl (refl, inl (omega arith)))))
 
-    both : (x y : Cell) → Step (touch h) L x y → Step (touch h) L y x
+    both : (x y : Cell) → Touching (touch h) L x y → Touching (touch h) L y x
     both x y s = (s .1, s .0, touch-both h x y (s .2))
 
     same-run : (c i k n : ℕ) → c < C → i < length (R c) → Within k (run-at R c i) → Within n (run-at R c i)
-        → Joined (Step (touch h) L) (cell c k) (cell c n)
-    same-run c i k n l m v w = ⊎-elim (λ p. up k n v w (omega arith)) (λ p. joined-sym (Step (touch h) L) both (cell c n) (cell c k) (up n k w v p)) (lt-or-ge k n)
+        → Joined (Touching (touch h) L) (cell c k) (cell c n)
+    same-run c i k n l m v w = ⊎-elim (λ p. up k n v w (omega arith)) (λ p. joined-sym (Touching (touch h) L) both (cell c n) (cell c k) (up n k w v p)) (lt-or-ge k n)
       where
-        up : (a b : ℕ) → Within a (run-at R c i) → Within b (run-at R c i) → a ≤ b → Joined (Step (touch h) L) (cell c a) (cell c b)
+        up : (a b : ℕ) → Within a (run-at R c i) → Within b (run-at R c i) → a ≤ b → Joined (Touching (touch h) L) (cell c a) (cell c b)
         up a b x y o =
             let e : a + (b - a) ≡ b = omega arith in
             rw e at (climb c i a (b - a) l m x (rw e y))
 
-    whole : (g : ℕ) → g < base R C → (x y : Cell) → Of x g → Of y g → Joined (Step (touch h) L) x y
+    whole : (g : ℕ) → g < base R C → (x y : Cell) → Of x g → Of y g → Joined (Touching (touch h) L) x y
     whole g b x y p q =
         let e : x .column ≡ y .column = base-unique R (x .column) (y .column) (p .1 .0) (q .1 .0) (p .1 .1) (q .1 .1) (sym (p .1 .2) ∙ q .1 .2) in
         let o : In-column (x .column) (y .number) g = subst (λ (z : ℕ). In-column z (y .number) g) (sym e) (q .1) in
         let s : o .0 ≡ p .1 .0 = omega (arith, p .1 .2, o .2) in
         let w : Within (y .number) (run-at R (x .column) (p .1 .0)) = subst (λ (z : ℕ). Within (y .number) (run-at R (x .column) z)) s (o .3) in
-        subst (λ (z : ℕ). Joined (Step (touch h) L) x (cell z (y .number))) e (same-run (x .column) (p .1 .0) (x .number) (y .number) (p .0) (p .1 .1) (p .1 .3) w)
+        subst (λ (z : ℕ). Joined (Touching (touch h) L) x (cell z (y .number))) e (same-run (x .column) (p .1 .0) (x .number) (y .number) (p .0) (p .1 .1) (p .1 .3) w)
 
     next-of : (x y : Cell) (g k : ℕ) → Of x g → Of y k → suc (x .column) ≡ y .column → Overlap h x y → Next g k
     next-of x y g k p q e o =
@@ -156,7 +156,7 @@ module _ (C : ℕ) (h : ℕ → ℕ) (pos : (c : ℕ) → 1 ≤ h c) (R : ℕ �
         let t : h (suc c) * suc (y .number) ≤ h (suc c) * run-at R (suc c) (r .0) .top = mul-le-mul-left (h (suc c)) (r .3 .1) in
         (c, p .1 .0, r .0, subst (λ (z : ℕ). z < C) (sym e) (q .0), p .1 .1, r .1, p .1 .2, r .2, (omega arith, omega arith))
 
-    down : (x y : Cell) (g k : ℕ) → g < base R C → k < base R C → Of x g → Of y k → Step (touch h) L x y → (g ≡ k) ⊎ Meet g k
+    down : (x y : Cell) (g k : ℕ) → g < base R C → k < base R C → Of x g → Of y k → Touching (touch h) L x y → (g ≡ k) ⊎ Meet g k
     down x y g k a b p q s = ⊎-elim near far (touch-to h x y (s .2))
       where
         near : Neighbours x y → (g ≡ k) ⊎ Meet g k
@@ -165,7 +165,7 @@ module _ (C : ℕ) (h : ℕ → ℕ) (pos : (c : ℕ) → 1 ≤ h c) (R : ℕ �
         far : Across h x y → (g ≡ k) ⊎ Meet g k
         far n = inr (⊎-elim (λ e. inl (next-of x y g k p q e (n .1))) (λ e. inr (next-of y x k g q p e (n .1 .1, n .1 .0))) (n .0))
 
-    up-next : (g k : ℕ) → Next g k → (x : Cell) × (y : Cell) × Of x g × Of y k × Step (touch h) L x y
+    up-next : (g k : ℕ) → Next g k → (x : Cell) × (y : Cell) × Of x g × Of y k × Touching (touch h) L x y
     up-next g k n =
         let (c, i, j, l, li, lj, eg, ek, s) = n in
         let u : (0 ≤ run-at R c i .bottom) × (run-at R c i .bottom < run-at R c i .top) = place-low 0 (R c) (canon c) i li in
@@ -175,7 +175,7 @@ module _ (C : ℕ) (h : ℕ → ℕ) (pos : (c : ℕ) → 1 ≤ h c) (R : ℕ �
         let q : Of (cell (suc c) b) k = (l, (j, lj, ek, wb)) in
         (cell c a, cell (suc c) b, p, q, step-of (cell c a) (cell (suc c) b) g k p q (inr (inl refl, (oa, ob))))
 
-    up : (g k : ℕ) → g < base R C → Meet g k → (x : Cell) × (y : Cell) × Of x g × Of y k × Step (touch h) L x y
+    up : (g k : ℕ) → g < base R C → Meet g k → (x : Cell) × (y : Cell) × Of x g × Of y k × Touching (touch h) L x y
     up g k l (inl n) = up-next g k n
     up g k l (inr n) = let (x, y, p, q, s) = up-next k g n in (y, x, q, p, both x y s)
 
@@ -183,7 +183,7 @@ module _ (C : ℕ) (h : ℕ → ℕ) (pos : (c : ℕ) → 1 ≤ h c) (R : ℕ �
     meet-below g k (inl n) = let (c, i, j, l, li, lj, eg, ek, s) = n in rw ek (base-below R C (suc c) j l lj)
     meet-below g k (inr n) = let (c, i, j, l, li, lj, eg, ek, s) = n in rw eg (base-below R C c i (omega arith) li)
 
-    grouped : Grouped (λ x. In x L) (Step (touch h) L) (λ g. g < base R C) Meet Of
+    grouped : Grouped (λ x. In x L) (Touching (touch h) L) (λ g. g < base R C) Meet Of
     grouped = record {
       group = group;
       only = λ x g k a b p q. one-run x x g k p q refl (inl refl);
@@ -209,7 +209,7 @@ module _ (C : ℕ) (h : ℕ → ℕ) (pos : (c : ℕ) → 1 ≤ h c) (R : ℕ �
     pick-of g (inr l) q = absurd (omega arith)
 
     -- THE SETS OF FREE CELLS ARE THE RUNS LESS THE JOINS
-    pub card-count : (P : List ℕ) → Alone (base R C) P → merges P (card-edges h R C) + sets (touch h) L ≡ base R C
+    pub card-count : (P : List ℕ) → Alone (base R C) P → merges P (card-edges h R C) + set-count (touch h) L ≡ base R C
     card-count P a =
         sets-count (touch h) (touch-both h) L d (base R C) Meet Of (λ g. pick g (lt-or-ge g (base R C))) grouped
         (λ g l. pick-of g (lt-or-ge g (base R C)) l) (λ g k m. swap m) P a (card-edges h R C) edges-below

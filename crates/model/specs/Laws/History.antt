@@ -141,7 +141,7 @@ history r rows kinds e cs = after (on-records (new r rows kinds .state) cs) (boo
           fragments = rw (h .final) (same-fragmentation d (B .final) w);
         }
 
--- its last part by itself (MODEL 15.8)
+-- one part of it by itself (MODEL 15.8)
 pub same-tasks-same-record : (rows : ℕ) (kinds r r′ : List ℕ) → new r rows kinds .answer ≡ pos 0 → new r′ rows kinds .answer ≡ pos 0 → (cs cs′ : List Call)
     → ((e : Running) → In e (book-of-history (device rows kinds) cs .final) ↔ In e (book-of-history (device rows kinds) cs′ .final))
     → on-records (new r rows kinds .state) cs .final ≡ on-records (new r′ rows kinds .state) cs′ .final

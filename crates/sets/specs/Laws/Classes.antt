@@ -3,10 +3,11 @@ use mathlib.Core.Path.{_≡_, refl, sym, ap, _∙_}
 use mathlib.Core.Logic.{_⊎_, inl, inr, _↔_}
 use mathlib.Core.Bool.{Bool, true, false, _||_, true≢false}
 use mathlib.Core.List.{List, [], _∷_}
-use Prim.Native.Nat.{suc}
+use Prim.Native.Nat.{suc, _≤_}
+use native.Mathlib.Omega.{arith}
 use lib.ListN.{length}
 use Rattle.runs.specs.Laws.Tests.{cond-ind, or-to, or-of}
-use Rattle.sets.specs.Graph.{In, Distinct, Joined, Apart, Represents, touches, met, unmet, classes, sets, Step}
+use Rattle.sets.specs.Graph.{In, Distinct, Joined, Unrelated, Represents, touches, met, unmet, classes, set-count, Touching}
 use Rattle.sets.specs.Laws.Lists.{in-append-to, in-left, in-right}
 use Rattle.sets.specs.Laws.Joined.{joined-refl, joined-step, joined-trans, joined-sym, joined-within, joined-more}
 use Rattle.sets.specs.Laws.Represents.{same-number}
@@ -80,7 +81,7 @@ module _ {A : Type 0} (T : A → A → Type 0) where
     heads-in (C ∷ K) w r (inr m) = let (D, n, k) = heads-in K (λ D m. w D (inr m)) r m in (D, inr n, k)
 
     heads-apart : (K : List (List A)) (w : Whole K) → Disjoint K → ((C : List A) → In C K → (y z : A) → In y C → T y z → In z C)
-        → Apart (Joined T) (heads K w)
+        → Unrelated (Joined T) (heads K w)
     unfolding heads
     heads-apart [] w d f = tt
     heads-apart (C ∷ K) w d f =
@@ -179,16 +180,16 @@ module _ {A : Type 0} (touch : A → A → Bool) (both : (x y : A) → touch x y
       cond-ind Disjoint (touches touch x D) (λ e. r)
       (λ e. (λ y m s. d .0 y m (s .0, unmet-to x K (s .0) (s .1) .0, s .2), r))
 
-  step-both : (L : List A) (x y : A) → Step touch L x y → Step touch L y x
+  step-both : (L : List A) (x y : A) → Touching touch L x y → Touching touch L y x
   step-both L x y s = (s .1, s .0, both x y (s .2))
 
-  step-more : (w : A) (L : List A) (x y : A) → Step touch L x y → Step touch (w ∷ L) x y
+  step-more : (w : A) (L : List A) (x y : A) → Touching touch L x y → Touching touch (w ∷ L) x y
   step-more w L x y s = (inr (s .0), inr (s .1), s .2)
 
   -- one node more
-  module _ (x : A) (L : List A) (fresh : In x L → ⊥) (K : List (List A)) (p : Parted (Step touch L) (λ y. In y L) K) where
+  module _ (x : A) (L : List A) (fresh : In x L → ⊥) (K : List (List A)) (p : Parted (Touching touch L) (λ y. In y L) K) where
     T′ : A → A → Type 0
-    T′ = Step touch (x ∷ L)
+    T′ = Touching touch (x ∷ L)
 
     add-covers : (y : A) → In y (x ∷ L) → InSome y ((x ∷ met touch x K) ∷ unmet touch x K)
     add-covers y (inl e) = (x ∷ met touch x K, inl refl, inl e)
@@ -220,28 +221,28 @@ module _ {A : Type 0} (touch : A → A → Bool) (both : (x y : A) → touch x y
             let e : C ≡ s .0 = same-class K (p .disjoint) C (s .0) n (u .0) y k (s .2) in
             true≢false (sym t ∙ ap (touches touch x) e ∙ u .1)
 
-    old : (y z : A) → Joined (Step touch L) y z → Joined (Step touch (x ∷ L)) y z
-    old = joined-more (Step touch L) (Step touch (x ∷ L)) (step-more x L)
+    old : (y z : A) → Joined (Touching touch L) y z → Joined (Touching touch (x ∷ L)) y z
+    old = joined-more (Touching touch L) (Touching touch (x ∷ L)) (step-more x L)
 
     add-whole : (C : List A) → In C ((x ∷ met touch x K) ∷ unmet touch x K)
-        → (c : A) × In c C × ((y : A) → In y C → Joined (Step touch (x ∷ L)) y c)
+        → (c : A) × In c C × ((y : A) → In y C → Joined (Touching touch (x ∷ L)) y c)
     add-whole C (inl e) = rw e (x, inl refl, new)
       where
-        new : (y : A) → In y (x ∷ met touch x K) → Joined (Step touch (x ∷ L)) y x
-        new y (inl e) = rw e (joined-refl (Step touch (x ∷ L)) x)
+        new : (y : A) → In y (x ∷ met touch x K) → Joined (Touching touch (x ∷ L)) y x
+        new y (inl e) = rw e (joined-refl (Touching touch (x ∷ L)) x)
         new y (inr m) =
             let (C, n, t, k) = met-to x y K m in
-            let w : (c : A) × In c C × ((y : A) → In y C → Joined (Step touch L) y c) = p .whole C n in
+            let w : (c : A) × In c C × ((y : A) → In y C → Joined (Touching touch L) y c) = p .whole C n in
             let (z, q, u) = touches-to x C t in
-            joined-trans (Step touch (x ∷ L)) y (w .0) x (old y (w .0) (w .2 y k))
-            (joined-trans (Step touch (x ∷ L)) (w .0) z x
-            (old (w .0) z (joined-sym (Step touch L) (step-both L) z (w .0) (w .2 z q)))
-            (joined-step (Step touch (x ∷ L)) z x (inr (p .covered z (C, n, q)), inl refl, both x z u)))
+            joined-trans (Touching touch (x ∷ L)) y (w .0) x (old y (w .0) (w .2 y k))
+            (joined-trans (Touching touch (x ∷ L)) (w .0) z x
+            (old (w .0) z (joined-sym (Touching touch L) (step-both L) z (w .0) (w .2 z q)))
+            (joined-step (Touching touch (x ∷ L)) z x (inr (p .covered z (C, n, q)), inl refl, both x z u)))
     add-whole C (inr m) =
-        let w : (c : A) × In c C × ((y : A) → In y C → Joined (Step touch L) y c) = p .whole C (unmet-to x K C m .0) in
+        let w : (c : A) × In c C × ((y : A) → In y C → Joined (Touching touch L) y c) = p .whole C (unmet-to x K C m .0) in
         (w .0, w .1, λ y k. old y (w .0) (w .2 y k))
 
-    add-closed : (C : List A) → In C ((x ∷ met touch x K) ∷ unmet touch x K) → (y z : A) → In y C → Step touch (x ∷ L) y z → In z C
+    add-closed : (C : List A) → In C ((x ∷ met touch x K) ∷ unmet touch x K) → (y z : A) → In y C → Touching touch (x ∷ L) y z → In z C
     add-closed C (inl e) y z k s = rw e (new (rw e at k) (s .1) (s .2))
       where
         new : In y (x ∷ met touch x K) → In z (x ∷ L) → touch y z ≡ true → In z (x ∷ met touch x K)
@@ -260,7 +261,7 @@ module _ {A : Type 0} (touch : A → A → Bool) (both : (x y : A) → touch x y
             let q : In C K = unmet-to x K C m .0 in
             p .closed C q y z k (p .covered y (C, q, k), n, t)
 
-  pub classes-parted : (L : List A) → Distinct L → Parted (Step touch L) (λ y. In y L) (classes touch L)
+  pub classes-parted : (L : List A) → Distinct L → Parted (Touching touch L) (λ y. In y L) (classes touch L)
   unfolding classes
   classes-parted [] d = record {
     covers = λ y m. absurd m;
@@ -270,7 +271,7 @@ module _ {A : Type 0} (touch : A → A → Bool) (both : (x y : A) → touch x y
     closed = λ C m. absurd m;
   }
   classes-parted (x ∷ L) d =
-      let p : Parted (Step touch L) (λ y. In y L) (classes touch L) = classes-parted L (d .1) in record {
+      let p : Parted (Touching touch L) (λ y. In y L) (classes touch L) = classes-parted L (d .1) in record {
         covers = add-covers x L (d .0) (classes touch L) p;
         covered = add-covered x L (d .0) (classes touch L) p;
         disjoint = add-disjoint x L (d .0) (classes touch L) p;
@@ -280,16 +281,29 @@ module _ {A : Type 0} (touch : A → A → Bool) (both : (x y : A) → touch x y
 
   -- TWO NODES ARE IN ONE CLASS EXACTLY WHERE A LIST OF NODES, EACH TOUCHING THE NEXT, LEADS FROM ONE TO THE OTHER
   pub class-joined : (L : List A) → Distinct L → (x y : A) → In x L
-      → ((C : List A) × In C (classes touch L) × In x C × In y C) ↔ Joined (Step touch L) x y
-  class-joined L d = one-set (Step touch L) (step-both L) (λ y. In y L) (classes touch L) (classes-parted L d)
+      → ((C : List A) × In C (classes touch L) × In x C × In y C) ↔ Joined (Touching touch L) x y
+  class-joined L d = one-set (Touching touch L) (step-both L) (λ y. In y L) (classes touch L) (classes-parted L d)
 
   -- THE NUMBER OF CONNECTED SETS is the length of any list with one node of each, and there is such a list
-  pub sets-number : (L : List A) → Distinct L → (R : List A) → Represents (λ y. In y L) (Joined (Step touch L)) R → sets touch L ≡ length R
-  unfolding sets
+  pub sets-number : (L : List A) → Distinct L → (R : List A) → Represents (λ y. In y L) (Joined (Touching touch L)) R → set-count touch L ≡ length R
+  unfolding set-count
   sets-number L d R h =
-      let (S, e, k) = parted-represents (Step touch L) (λ y. In y L) (classes touch L) (classes-parted L d) in
-      sym e ∙ same-number (Joined (Step touch L)) (joined-sym (Step touch L) (step-both L)) (joined-trans (Step touch L)) (λ y. In y L) S R k h
+      let (S, e, k) = parted-represents (Touching touch L) (λ y. In y L) (classes touch L) (classes-parted L d) in
+      sym e ∙ same-number (Joined (Touching touch L)) (joined-sym (Touching touch L) (step-both L)) (joined-trans (Touching touch L)) (λ y. In y L) S R k h
 
-  pub sets-exist : (L : List A) → Distinct L → (R : List A) × (length R ≡ sets touch L) × Represents (λ y. In y L) (Joined (Step touch L)) R
-  unfolding sets
-  sets-exist L d = parted-represents (Step touch L) (λ y. In y L) (classes touch L) (classes-parted L d)
+  pub sets-exist : (L : List A) → Distinct L → (R : List A) × (length R ≡ set-count touch L) × Represents (λ y. In y L) (Joined (Touching touch L)) R
+  unfolding set-count
+  sets-exist L d = parted-represents (Touching touch L) (λ y. In y L) (classes touch L) (classes-parted L d)
+
+  -- there are at most as many as nodes
+  unmet-few : (x : A) (K : List (List A)) → length (unmet touch x K) ≤ length K
+  unfolding unmet
+  unmet-few x [] = omega arith
+  unmet-few x (C ∷ K) =
+      cond-ind (λ (M : List (List A)). length M ≤ suc (length K)) (touches touch x C) {x = unmet touch x K} {y = C ∷ unmet touch x K}
+      (λ e. omega (arith, unmet-few x K)) (λ e. omega (arith, unmet-few x K))
+
+  pub sets-few : (L : List A) → set-count touch L ≤ length L
+  unfolding set-count classes
+  sets-few [] = omega arith
+  sets-few (x ∷ L) = omega (arith, sets-few L, unmet-few x (classes touch L))

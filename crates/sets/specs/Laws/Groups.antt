@@ -3,13 +3,13 @@
 use mathlib.Core.Path.{_≡_, refl, sym, ap, subst}
 use mathlib.Core.Logic.{_⊎_, inl, inr, ⊎-elim}
 use mathlib.Core.List.{List, [], _∷_, map}
-use Rattle.sets.specs.Graph.{In, Leads, Joined, Apart, Represents}
+use Rattle.sets.specs.Graph.{In, Leads, Joined, Unrelated, Represents}
 use Rattle.sets.specs.Laws.Lists.{in-map-to, in-map-of}
 use Rattle.sets.specs.Laws.Joined.{joined-refl, joined-step, joined-trans}
 
 -- a relation that says the same of the nodes has the same representatives
 module _ {A : Type 0} (N : A → Type 0) (I J : A → A → Type 0) (to : (x y : A) → N x → N y → I x y → J x y) (of : (x y : A) → N x → N y → J x y → I x y) where
-  apart-same : (R : List A) → ((r : A) → In r R → N r) → Apart I R → Apart J R
+  apart-same : (R : List A) → ((r : A) → In r R → N r) → Unrelated I R → Unrelated J R
   apart-same [] n a = tt
   apart-same (r ∷ R) n a =
       (λ s m j. a .0 s m (of r s (n r (inl refl)) (n s (inr m)) j), apart-same R (λ s m. n s (inr m)) (a .1))
@@ -55,7 +55,7 @@ module _ {A B : Type 0} (N : A → Type 0) (T : A → A → Type 0) (G : B → T
 
   -- some node of each group
   module _ (some : B → A) (some-in : (g : B) → G g → N (some g) × Of (some g) g) where
-    map-apart : (R : List B) → ((g : B) → In g R → G g) → Apart (Joined U) R → Apart (Joined T) (map some R)
+    map-apart : (R : List B) → ((g : B) → In g R → G g) → Unrelated (Joined U) R → Unrelated (Joined T) (map some R)
     map-apart [] c a = tt
     map-apart (r ∷ R) c a = (far, map-apart R (λ g m. c g (inr m)) (a .1))
       where

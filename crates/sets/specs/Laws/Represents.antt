@@ -5,7 +5,7 @@ use mathlib.Core.List.{List, [], _∷_}
 use Prim.Native.Nat.{suc, _≤_}
 use native.Mathlib.Omega.{arith}
 use lib.ListN.{length}
-use Rattle.sets.specs.Graph.{In, Apart, Represents}
+use Rattle.sets.specs.Graph.{In, Unrelated, Represents}
 
 module _ {A : Type 0} where
   -- S without one of its nodes
@@ -32,7 +32,7 @@ module _ {A : Type 0} where
 
 module _ {A : Type 0} (J : A → A → Type 0) (sy : (x y : A) → J x y → J y x) (tr : (x y z : A) → J x y → J y z → J x z) where
   -- of a list of which no two are joined, each joined to one of S, there are at most as many as S has
-  at-most : (R S : List A) → Apart J R → ((r : A) → In r R → (s : A) × In s S × J r s) → length R ≤ length S
+  at-most : (R S : List A) → Unrelated J R → ((r : A) → In r R → (s : A) × In s S × J r s) → length R ≤ length S
   at-most [] S a f = omega arith
   at-most (r ∷ R) S a f =
       let first : (s : A) × In s S × J r s = f r (inl refl) in

@@ -9,7 +9,7 @@ use lib.Dec.{eqb}
 use lib.ListN.{length}
 use borrow.Author.Tests.{eq-eqb, ne-eqb, eqb-true, eqb-false}
 use Rattle.runs.specs.Laws.Tests.{cond-ind, lt-or-ge}
-use Rattle.sets.specs.Graph.{In, Apart, Represents}
+use Rattle.sets.specs.Graph.{In, Unrelated, Represents}
 use Rattle.sets.specs.Forest.{climb, Falls, top, roots}
 
 module _ (p : ℕ → ℕ) where
@@ -160,12 +160,12 @@ module _ (p : ℕ → ℕ) where
           let u : eqb (p n) n ≡ true = eq-eqb (p n) n (rw h at e) in
           rw u (inl h)
 
-  pub roots-apart : (f : Falls p) (m : ℕ) → Apart (λ i j. top p i ≡ top p j) (roots p m)
+  pub roots-apart : (f : Falls p) (m : ℕ) → Unrelated (λ i j. top p i ≡ top p j) (roots p m)
   unfolding roots
   roots-apart f zero = tt
   roots-apart f (suc n) =
-      let r : Apart (λ i j. top p i ≡ top p j) (roots p n) = roots-apart f n in
-      cond-ind (Apart (λ i j. top p i ≡ top p j)) (eqb (p n) n) (λ e. (far e, r)) (λ e. r)
+      let r : Unrelated (λ i j. top p i ≡ top p j) (roots p n) = roots-apart f n in
+      cond-ind (Unrelated (λ i j. top p i ≡ top p j)) (eqb (p n) n) (λ e. (far e, r)) (λ e. r)
     where
       far : eqb (p n) n ≡ true → (s : ℕ) → In s (roots p n) → top p n ≡ top p s → ⊥
       far e s m h =

@@ -12,7 +12,7 @@ use lib.Seq.{getD-set-same, getD-set-other, set-getD}
 use borrow.Author.Tests.{eq-eqb, ne-eqb, eqb-true, eqb-false}
 use Rattle.runs.specs.Laws.Tests.{cond-ind, lt-or-ge}
 use Rattle.sets.specs.Graph.{In, Joined, Represents}
-use Rattle.sets.specs.Forest.{Falls, at, root, union, unions, merges, roots, Forest, Alone, Below, Edge, max-nodes, Room}
+use Rattle.sets.specs.Forest.{Falls, at, root, union, unions, merges, roots, Forest, Alone, Below, Edge, max-nodes, Parents}
 use Rattle.sets.specs.Laws.Joined.{joined-refl, joined-trans, joined-sym, joined-within}
 use Rattle.sets.specs.Laws.Groups.{represents-same}
 use Rattle.sets.specs.Laws.Tops.{top-le, top-up, top-root, top-fixed, Linked, link-falls, link-top, link-count, length-roots, roots-represent}
@@ -278,5 +278,5 @@ zero-at zero k = refl
 zero-at (suc n) zero = refl
 zero-at (suc n) (suc k) = zero-at n k
 
-pub zeros-room : (n : ℕ) → n ≤ max-nodes → Room (replicate n 0)
-zeros-room n l = record { falls = λ k. omega (arith, zero-at n k); few = omega (arith, length-replicate {A = ℕ} n 0) }
+pub zeros-parents : (n : ℕ) → n ≤ max-nodes → Parents (replicate n 0)
+zeros-parents n l = record { falls = λ k. omega (arith, zero-at n k); few = omega (arith, length-replicate {A = ℕ} n 0) }

@@ -4,7 +4,7 @@ use Prim.Native.Nat.{ℕ}
 use native.Mathlib.Omega.{arith}
 use lib.Dec.{lit≤}
 use Rattle.sets.specs.Forest.{Alone}
-use Rattle.sets.specs.Laws.Unions.{zeros-room}
+use Rattle.sets.specs.Laws.Unions.{zeros-parents}
 use Rattle.fragments.specs.Laws.OnBytes.{sets-bytes}
 use borrow.Author.Needs.{needs}
 use Rattle.fragments.proofs.connected.count_sets.Statement.{statement}
@@ -17,7 +17,7 @@ slice-aggregate-set-apart : tie.Need-slice-aggregate-set-apart
 slice-aggregate-set-apart c = search needs
 
 set-apart-requires : tie.Need-set-apart-requires
-set-apart-requires c κs = (zeros-room 4096 (lit≤ tt), c .before .total .ensures .1)
+set-apart-requires c κs = (zeros-parents 4096 (lit≤ tt), c .before .total .ensures .1)
 
 slice-aggregate-join-all : tie.Need-slice-aggregate-join-all
 slice-aggregate-join-all c = search needs
