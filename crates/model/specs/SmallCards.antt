@@ -74,7 +74,7 @@ numbers = map pos
 abbrev room : List ℕ
 room = replicate list-room 0
 
--- ---- the cards and tasks, MODEL 19.1
+-- ---- the cards and tasks of MODEL 19.1
 
 K1 : Device
 K1 = card 2 (1 ∷ [])
@@ -128,16 +128,6 @@ held-2-4 = place C-2 1 0 (pos 2) ∷ []
 held-2-6 : List Call
 held-2-6 = held-2-4 ++ (place C-2 2 0 (pos 4) ∷ [])
 
--- MODEL 19.2: cards whose fragmentation is stated; the others are those of K3, K6 and K7
-K14 : Device
-K14 = card 2 (0 ∷ 1 ∷ 0 ∷ [])
-
-K15 : Device
-K15 = card 3 (0 ∷ 1 ∷ [])
-
-K16 : Device
-K16 = card 6 (0 ∷ 1 ∷ [])
-
 -- blocks that touch, and blocks apart
 K8-touching : List ℕ
 K8-touching = C-block 0 0 2 ++ C-block 0 2 4
@@ -148,7 +138,25 @@ K8-apart = C-block 0 0 2 ++ C-block 0 4 6
 K9-task : List ℕ
 K9-task = B-block 0 0 4
 
--- 4–6 of column 0 is held, as on K12; the README's card, K13; all below 4, as on K15; all but the highest C and B, as on K16; 0–2, as on K17
+-- each call that takes a task
+unfoldable with-task : List ℕ → List Call
+with-task t = list t room ∷ choose t ∷ place t 1 0 (pos 0) ∷ []
+
+minus-5 : List ℤ
+minus-5 = negℤ (pos 5) ∷ negℤ (pos 5) ∷ negℤ (pos 5) ∷ []
+
+-- ---- the cards of MODEL 19.2; the others are those of K3, K6 and K7
+
+K14 : Device
+K14 = card 2 (0 ∷ 1 ∷ 0 ∷ [])
+
+K15 : Device
+K15 = card 3 (0 ∷ 1 ∷ [])
+
+K16 : Device
+K16 = card 6 (0 ∷ 1 ∷ [])
+
+-- what is held on K12, on K13 (the README's card), K15, K16 and K17
 held-4-6 : List Call
 held-4-6 = place C-2 1 0 (pos 4) ∷ []
 
@@ -163,13 +171,6 @@ all-but-two = place (C-block 0 0 10) 1 0 (pos 0) ∷ place B-5 2 1 (pos 0) ∷ [
 
 held-0-2 : List Call
 held-0-2 = place C-2 1 0 (pos 0) ∷ []
-
--- each call that takes a task
-unfoldable with-task : List ℕ → List Call
-with-task t = list t room ∷ choose t ∷ place t 1 0 (pos 0) ∷ []
-
-minus-5 : List ℤ
-minus-5 = negℤ (pos 5) ∷ negℤ (pos 5) ∷ negℤ (pos 5) ∷ []
 
 -- ---- the table
 
