@@ -28,7 +28,7 @@ module _ (d : Device) (b : Book) where
         λ (l, n). free-cells-are d b x .1 (named .0 n .1),
       )
 
-  pub runs-canon : (c : ℕ) → Apart 0 (free-runs d b c)
+  runs-canon : (c : ℕ) → Apart 0 (free-runs d b c)
   unfolding free-runs
   runs-canon c = intervals-free (cell-free d b c) (cells d c) .canon
 

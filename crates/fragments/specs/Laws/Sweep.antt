@@ -18,13 +18,13 @@ use Rattle.sets.specs.Laws.Lists.{in-right, each-append}
 use Rattle.sets.specs.Laws.Unions.{unions-forest, length-unions, unions-append, merges-append}
 use Rattle.fragments.specs.Sweep.{Sides, Shares, shares, edge, edge-if, swept, edges-from, edges, Sweeping, Alike}
 
-pub shares-to : (x y : Interval) → shares x y ≡ true → Shares x y
+shares-to : (x y : Interval) → shares x y ≡ true → Shares x y
 unfolding shares
 shares-to x y e =
     let h : (ltb (x .bottom) (y .top) ≡ true) × (ltb (y .bottom) (x .top) ≡ true) = and-to _ _ e in
     (ltb-true (x .bottom) (y .top) (h .0), ltb-true (y .bottom) (x .top) (h .1))
 
-pub shares-of : (x y : Interval) → Shares x y → shares x y ≡ true
+shares-of : (x y : Interval) → Shares x y → shares x y ≡ true
 unfolding shares
 shares-of x y h = rw (lt-ltb (x .bottom) (y .top) (h .0), lt-ltb (y .bottom) (x .top) (h .1))
 
@@ -105,21 +105,21 @@ module _ (S : Sides) where
   -- ---- a turn of the loop
 
   module _ (i j : ℕ) (li : i < S .lefts) (lj : j < S .rights) where
-    pub turn-left : S .left i .top ≤ S .right j .top
+    turn-left : S .left i .top ≤ S .right j .top
         → edges-from S i j ≡ edge-if (shares (S .left i) (S .right j)) (edge S i j) ++ edges-from S (i + 1) j
     unfolding edges-from swept
     turn-left t =
         let e : S .lefts - i + (S .rights - j) ≡ suc (S .lefts - (i + 1) + (S .rights - j)) = omega arith in
         rw (e, lt-ltb i (S .lefts) li, lt-ltb j (S .rights) lj, le-leb (S .left i .top) (S .right j .top) t, add-one)
 
-    pub turn-right : S .right j .top < S .left i .top
+    turn-right : S .right j .top < S .left i .top
         → edges-from S i j ≡ edge-if (shares (S .left i) (S .right j)) (edge S i j) ++ edges-from S i (j + 1)
     unfolding edges-from swept
     turn-right t =
         let e : S .lefts - i + (S .rights - j) ≡ suc (S .lefts - i + (S .rights - (j + 1))) = omega arith in
         rw (e, lt-ltb i (S .lefts) li, lt-ltb j (S .rights) lj, lt-leb (S .left i .top) (S .right j .top) t, add-one)
 
-  pub turn-end : (i j : ℕ) → (S .lefts ≤ i) ⊎ (S .rights ≤ j) → edges-from S i j ≡ []
+  turn-end : (i j : ℕ) → (S .lefts ≤ i) ⊎ (S .rights ≤ j) → edges-from S i j ≡ []
   unfolding edges-from swept
   turn-end i j h = go (S .lefts - i + (S .rights - j)) h
     where

@@ -46,7 +46,7 @@ module _ {A : Type 0} (T : A → A → Type 0) where
   joined-closed C f = joined-within T (λ y z. In y C → In z C) (λ x m. m) (λ x y z p q m. q (p m)) (λ x y t m. f x y m t)
 
   -- TWO NODES ARE IN ONE SET OF K EXACTLY WHERE STEPS JOIN THEM
-  pub one-set : (both : (x y : A) → T x y → T y x) (N : A → Type 0) (K : List (List A)) → Parted T N K
+  one-set : (both : (x y : A) → T x y → T y x) (N : A → Type 0) (K : List (List A)) → Parted T N K
       → (x y : A) → N x → ((C : List A) × In C K × In x C × In y C) ↔ Joined T x y
   one-set both N K p x y n = (to, of)
     where
@@ -97,7 +97,7 @@ module _ {A : Type 0} (T : A → A → Type 0) where
     heads-every (D ∷ K) w y C (inl e) k = (w D (inl refl) .0, inl refl, w D (inl refl) .2 y (rw e at k))
     heads-every (D ∷ K) w y C (inr m) k = let (r, n, j) = heads-every K (λ D m. w D (inr m)) y C m k in (r, inr n, j)
 
-    pub parted-represents : (K : List (List A)) → Parted T N K → (R : List A) × (length R ≡ length K) × Represents N (Joined T) R
+    parted-represents : (K : List (List A)) → Parted T N K → (R : List A) × (length R ≡ length K) × Represents N (Joined T) R
     parted-represents K p = (
       heads K (p .whole),
       length-heads K (p .whole),
@@ -261,7 +261,7 @@ module _ {A : Type 0} (touch : A → A → Bool) (both : (x y : A) → touch x y
             let q : In C K = unmet-to x K C m .0 in
             p .closed C q y z k (p .covered y (C, q, k), n, t)
 
-  pub classes-parted : (L : List A) → Distinct L → Parted (Touching touch L) (λ y. In y L) (classes touch L)
+  classes-parted : (L : List A) → Distinct L → Parted (Touching touch L) (λ y. In y L) (classes touch L)
   unfolding classes
   classes-parted [] d = record {
     covers = λ y m. absurd m;

@@ -51,7 +51,7 @@ module _ (p : ℕ → ℕ) (f : Falls p) where
   unfolding top
   top-fixed i e = climb-fixed p i i e
 
-  pub top-top : (i : ℕ) → top p (top p i) ≡ top p i
+  top-top : (i : ℕ) → top p (top p i) ≡ top p i
   top-top i = top-fixed (top p i) (top-root i)
 
   stable : (n i : ℕ) → i ≤ n → climb n p i ≡ top p i
@@ -71,11 +71,6 @@ module _ (p : ℕ → ℕ) (f : Falls p) where
   pub top-unique : (g : ℕ → ℕ) → ((k : ℕ) → g (p k) ≡ g k) → ((k : ℕ) → p k ≡ k → g k ≡ k) → (i : ℕ) → top p i ≡ g i
   unfolding top
   top-unique g h r i = sym (r (climb i p i) (climb-root i i (omega arith))) ∙ carried p g h i i
-
--- other parents with the same roots: parents may be replaced by any node further up the same tree, as path halving does
-module _ (p q : ℕ → ℕ) (f : Falls p) (g : Falls q) where
-  pub top-same : ((k : ℕ) → top p (q k) ≡ top p k) → ((k : ℕ) → q k ≡ k → p k ≡ k) → (i : ℕ) → top q i ≡ top p i
-  top-same h r = top-unique q g (top p) h (λ k e. top-fixed p f k (r k e))
 
 -- q is p, but for one root b, which is now below the root a
 pub record Linked (p q : ℕ → ℕ) (a b : ℕ) : Type 0 where
@@ -133,7 +128,7 @@ module _ (p q : ℕ → ℕ) (a b : ℕ) (f : Falls p) (l : Linked p q a b) wher
 -- ---- the list of the roots
 
 module _ (p : ℕ → ℕ) where
-  pub roots-to : (m r : ℕ) → In r (roots p m) → (r < m) × (p r ≡ r)
+  roots-to : (m r : ℕ) → In r (roots p m) → (r < m) × (p r ≡ r)
   unfolding roots
   roots-to zero r h = absurd h
   roots-to (suc n) r h =
@@ -146,7 +141,7 @@ module _ (p : ℕ → ℕ) where
       go e f (inl k) = (omega arith, rw k (eqb-true (p n) n e))
       go e f (inr k) = (omega (arith, f k .0), f k .1)
 
-  pub roots-of : (m r : ℕ) → r < m → p r ≡ r → In r (roots p m)
+  roots-of : (m r : ℕ) → r < m → p r ≡ r → In r (roots p m)
   unfolding roots
   roots-of zero r l e = absurd (omega arith)
   roots-of (suc n) r l e = ⊎-elim (λ k. old (roots-of n r k e)) new (lt-or-ge r n)
@@ -160,7 +155,7 @@ module _ (p : ℕ → ℕ) where
           let u : eqb (p n) n ≡ true = eq-eqb (p n) n (rw h at e) in
           rw u (inl h)
 
-  pub roots-apart : (f : Falls p) (m : ℕ) → Unrelated (λ i j. top p i ≡ top p j) (roots p m)
+  roots-apart : (f : Falls p) (m : ℕ) → Unrelated (λ i j. top p i ≡ top p j) (roots p m)
   unfolding roots
   roots-apart f zero = tt
   roots-apart f (suc n) =
@@ -188,7 +183,7 @@ module _ (p : ℕ → ℕ) where
       go true = omega arith
       go false = omega arith
 
-pub roots-cong : (p q : ℕ → ℕ) (m : ℕ) → ((k : ℕ) → k < m → q k ≡ p k) → roots q m ≡ roots p m
+roots-cong : (p q : ℕ → ℕ) (m : ℕ) → ((k : ℕ) → k < m → q k ≡ p k) → roots q m ≡ roots p m
 unfolding roots
 roots-cong p q zero e = refl
 roots-cong p q (suc n) e = rw (e n (omega arith), roots-cong p q n (λ k l. e k (omega arith)))

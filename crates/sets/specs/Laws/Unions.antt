@@ -34,7 +34,7 @@ root-here P f i node e h = sym (top-fixed (at P) f i e) ∙ h
 
 -- ---- one edge
 
-pub union-same : (P : List ℕ) → Falls (at P) → (i j : ℕ) → root P i ≡ root P j → union P i j ≡ P
+union-same : (P : List ℕ) → Falls (at P) → (i j : ℕ) → root P i ≡ root P j → union P i j ≡ P
 unfolding union
 union-same P f i j e =
     let a : max (root P i) (root P j) ≡ root P i = omega arith in
@@ -64,7 +64,7 @@ module _ (m : ℕ) (P : List ℕ) (f : Forest m P) (i j : ℕ) (li : i < m) (lj 
       highest : (max (root P i) (root P j) ≡ root P i) ⊎ (max (root P i) (root P j) ≡ root P j)
       highest = ⊎-elim (λ h. inr (omega arith)) (λ h. inl (omega arith)) (lt-or-ge (root P i) (root P j))
 
-  pub union-forest : Forest m (union P i j)
+  union-forest : Forest m (union P i j)
   unfolding union
   union-forest = record {
     size = rw length-set (f .size);
@@ -72,21 +72,21 @@ module _ (m : ℕ) (P : List ℕ) (f : Forest m P) (i j : ℕ) (li : i < m) (lj 
   }
 
   -- the root after the union
-  pub union-root : (k : ℕ) → root (union P i j) k
+  union-root : (k : ℕ) → root (union P i j) k
       ≡ cond (eqb (root P k) (max (root P i) (root P j))) (min (root P i) (root P j)) (root P k)
   union-root = link-top (at P) (at (union P i j)) _ _ (f .falls) union-linked
 
   -- nodes of one set stay in one set
-  pub union-keeps : (x y : ℕ) → root P x ≡ root P y → root (union P i j) x ≡ root (union P i j) y
+  union-keeps : (x y : ℕ) → root P x ≡ root P y → root (union P i j) x ≡ root (union P i j) y
   union-keeps x y e = union-root x ∙ (rw e) ∙ sym (union-root y)
 
   -- i and j are in one set
-  pub union-joins : root (union P i j) i ≡ root (union P i j) j
+  union-joins : root (union P i j) i ≡ root (union P i j) j
   union-joins =
       union-root i ∙ low-left (root P i) (root P j) ∙ sym (low-right (root P i) (root P j)) ∙ sym (union-root j)
 
   -- what is related to its root stays so, where i and j are related
-  pub union-sound : (J : ℕ → ℕ → Type 0) (sy : (x y : ℕ) → J x y → J y x) (tr : (x y z : ℕ) → J x y → J y z → J x z)
+  union-sound : (J : ℕ → ℕ → Type 0) (sy : (x y : ℕ) → J x y → J y x) (tr : (x y z : ℕ) → J x y → J y z → J x z)
       → J i j → ((x : ℕ) → x < m → J x (root P x)) → (x : ℕ) → x < m → J x (root (union P i j) x)
   union-sound J sy tr e h x l =
       rw union-root
@@ -108,7 +108,7 @@ module _ (m : ℕ) (P : List ℕ) (f : Forest m P) (i j : ℕ) (li : i < m) (lj 
           rw b (tr x (root P i) (root P j) (rw a at (h x l)) across)
 
   -- one root less, where i and j had two
-  pub union-count : length (roots (at P) m) ≡ cond (eqb (root P i) (root P j)) 0 1 + length (roots (at (union P i j)) m)
+  union-count : length (roots (at P) m) ≡ cond (eqb (root P i) (root P j)) 0 1 + length (roots (at (union P i j)) m)
   union-count = go (eqb (root P i) (root P j)) refl
     where
       go : (t : Bool) → eqb (root P i) (root P j) ≡ t → length (roots (at P) m) ≡ cond t 0 1 + length (roots (at (union P i j)) m)
@@ -155,7 +155,7 @@ module _ (m : ℕ) where
   unions-forest P f [] b = f
   unions-forest P f (e ∷ E) b = unions-forest (union P (e .0) (e .1)) (first P f e E b) E (below-rest e E b)
 
-  pub unions-keeps : (P : List ℕ) → Forest m P → (E : List (ℕ × ℕ)) → Below m E
+  unions-keeps : (P : List ℕ) → Forest m P → (E : List (ℕ × ℕ)) → Below m E
       → (x y : ℕ) → root P x ≡ root P y → root (unions P E) x ≡ root (unions P E) y
   unfolding unions
   unions-keeps P f [] b x y h = h
@@ -163,7 +163,7 @@ module _ (m : ℕ) where
       unions-keeps (union P (e .0) (e .1)) (first P f e E b) E (below-rest e E b) x y
       (union-keeps m P f (e .0) (e .1) (b e (inl refl) .0) (b e (inl refl) .1) x y h)
 
-  pub unions-joins : (P : List ℕ) → Forest m P → (E : List (ℕ × ℕ)) → Below m E
+  unions-joins : (P : List ℕ) → Forest m P → (E : List (ℕ × ℕ)) → Below m E
       → (d : ℕ × ℕ) → In d E → root (unions P E) (d .0) ≡ root (unions P E) (d .1)
   unfolding unions
   unions-joins P f [] b d h = absurd h
@@ -173,7 +173,7 @@ module _ (m : ℕ) where
       (union-joins m P f (e .0) (e .1) (b e (inl refl) .0) (b e (inl refl) .1)))
   unions-joins P f (e ∷ E) b d (inr h) = unions-joins (union P (e .0) (e .1)) (first P f e E b) E (below-rest e E b) d h
 
-  pub unions-sound : (J : ℕ → ℕ → Type 0) (sy : (x y : ℕ) → J x y → J y x) (tr : (x y z : ℕ) → J x y → J y z → J x z)
+  unions-sound : (J : ℕ → ℕ → Type 0) (sy : (x y : ℕ) → J x y → J y x) (tr : (x y z : ℕ) → J x y → J y z → J x z)
       (P : List ℕ) → Forest m P → (E : List (ℕ × ℕ)) → Below m E → ((e : ℕ × ℕ) → In e E → J (e .0) (e .1))
       → ((x : ℕ) → x < m → J x (root P x)) → (x : ℕ) → x < m → J x (root (unions P E) x)
   unfolding unions
@@ -183,7 +183,7 @@ module _ (m : ℕ) where
       (union-sound m P f (e .0) (e .1) (b e (inl refl) .0) (b e (inl refl) .1) J sy tr (h e (inl refl)) s)
 
   -- EACH EDGE THAT BRINGS TWO SETS TOGETHER LEAVES ONE LESS
-  pub unions-count : (P : List ℕ) → Forest m P → (E : List (ℕ × ℕ)) → Below m E
+  unions-count : (P : List ℕ) → Forest m P → (E : List (ℕ × ℕ)) → Below m E
       → merges P E + length (roots (at (unions P E)) m) ≡ length (roots (at P) m)
   unfolding unions merges
   unions-count P f [] b = omega arith
