@@ -12,8 +12,8 @@
  *
  * The caller keeps, and nothing checks, that
  *   - each pointer is valid for its length, for writing where it is not const; with length 0 it may be any, NULL too;
- *   - each pointer to a number is valid for writing it: it is never NULL;
- *   - a part that is written overlaps no other part of the same call;
+ *   - each pointer to a number is aligned and valid for writing it: it is never NULL;
+ *   - what is written, a part or a number, overlaps nothing else of the same call;
  *   - nobody else writes a part while a call uses it, or reads one that it writes.
  *
  * Promised, and proved, for all bytes, lengths and numbers whatever:
@@ -141,8 +141,8 @@ int32_t card_interval_count(const uint8_t *record, size_t record_len, uint32_t c
 
 /* Answers how many connected sets the free cells make, and writes how many cells are free, and the degree in hundredths
    of a percent, 10,000 * (sets - 1) / (free - 1) rounded down, or 0 with one free cell or none. Free cells touch one
-   above the other in a column, and in columns side by side where they share a half row; a connected set has all that
-   touching joins. With no free cell it answers 0. Or answers -1 or -2, and writes two zeros. */
+   above the other in a column, and in columns side by side where they share a half row; a connected set is a free cell
+   with all that can be reached from it over free cells that touch. With no free cell it answers 0. Or answers -1 or -2, and writes two zeros. */
 int32_t card_fragmentation(const uint8_t *record, size_t record_len, int32_t *free, int32_t *degree);
 
 #ifdef __cplusplus

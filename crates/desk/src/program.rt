@@ -9,8 +9,7 @@ ghost use mathlib.Core.Path.{_≡_};
 ghost use Prim.Native.Nat.{_+_, _*_, _≤_};
 ghost use lib.ListN.{length};
 ghost use Rattle.model.specs.Limits.{record-size};
-ghost use Rattle.model.specs.Program.{says};
-ghost use Rattle.line.specs.Print.{Printed, line-room};
+ghost use Rattle.line.specs.Print.{line-room};
 ghost use Rattle.desk.specs.Desk.{Room};
 ghost use Rattle.desk.specs.Run.{state, Standing, Starts, Turned, Faults};
 

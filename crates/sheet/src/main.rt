@@ -2,7 +2,6 @@
 // A read or a write that fails is told on standard error; then `./sheet` ends with status 1, which a program of the kit cannot do itself.
 use libc::STDIN_FILENO;
 use libc::STDOUT_FILENO;
-ghost use mathlib.Core.Path.{_≡_};
 ghost use lib.ListN.{length};
 ghost use Prim.Native.Nat.{_≤_};
 

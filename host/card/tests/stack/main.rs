@@ -13,7 +13,7 @@ const KIB: usize = 1024;
 /// What `card_new` needs at most; its frames take 56 bytes.
 const NEW_STACK: usize = 8 * KIB;
 
-/// What `card_fragmentation` needs at most; its frames take 38,040 bytes, 8 KiB of them for the sets of intervals.
+/// What `card_fragmentation` needs at most; its frames take 38,056 bytes, 8 KiB of them for the sets of intervals.
 const FRAGMENTATION_STACK: usize = 44 * KIB;
 
 /// What every other call needs at most; the frames of choose, the deepest, take 30,488 bytes.
