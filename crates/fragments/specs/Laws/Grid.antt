@@ -208,7 +208,7 @@ module _ (C : ℕ) (h : ℕ → ℕ) (pos : (c : ℕ) → 1 ≤ h c) (R : ℕ �
         (free (cell c (run-at R c i .bottom)) .1 (k, place-named (run-at R c i .bottom) (R c) i m w), (k, (i, m, e, w)))
     pick-of g (inr l) q = absurd (omega arith)
 
-    -- THE SETS OF FREE CELLS ARE THE RUNS LESS THE JOINS
+    -- THEOREM: the sets of free cells are the runs less the joins
     pub card-count : (P : List ℕ) → Alone (base R C) P → merges P (card-edges h R C) + set-count (touch h) L ≡ base R C
     card-count P a =
         sets-count (touch h) (touch-both h) L d (base R C) Meet Of (λ g. pick g (lt-or-ge g (base R C))) grouped

@@ -90,7 +90,7 @@ module _ (S : Sides) where
             far : i < x → ⊥
             far k = omega (arith, up-left i x k lx, s .0, ap (λ (z : ℕ). S .right z .top) e)
 
-  -- THE SWEEP IS RIGHT: its edges are those of the pairs that share a half row, and of no others
+  -- THEOREM: its edges are those of the pairs that share a half row, and of no others
   pub edges-sound : (e : ℕ × ℕ) → In e (edges S) → Right e
   unfolding edges edges-from
   edges-sound = swept-sound (S .lefts - 0 + (S .rights - 0)) 0 0

@@ -45,7 +45,7 @@ module _ {A : Type 0} (T : A → A → Type 0) where
   joined-closed : (C : List A) → ((y z : A) → In y C → T y z → In z C) → (y z : A) → Joined T y z → In y C → In z C
   joined-closed C f = joined-within T (λ y z. In y C → In z C) (λ x m. m) (λ x y z p q m. q (p m)) (λ x y t m. f x y m t)
 
-  -- TWO NODES ARE IN ONE SET OF K EXACTLY WHERE STEPS JOIN THEM
+  -- two nodes are in one set of K exactly where steps join them
   one-set : (both : (x y : A) → T x y → T y x) (N : A → Type 0) (K : List (List A)) → Parted T N K
       → (x y : A) → N x → ((C : List A) × In C K × In x C × In y C) ↔ Joined T x y
   one-set both N K p x y n = (to, of)
@@ -279,12 +279,12 @@ module _ {A : Type 0} (touch : A → A → Bool) (both : (x y : A) → touch x y
         closed = add-closed x L (d .0) (classes touch L) p;
       }
 
-  -- TWO NODES ARE IN ONE CLASS EXACTLY WHERE A LIST OF NODES, EACH TOUCHING THE NEXT, LEADS FROM ONE TO THE OTHER
+  -- THEOREM: two nodes are in one class exactly where a list of nodes, each touching the next, leads from one to the other
   pub class-joined : (L : List A) → Distinct L → (x y : A) → In x L
       → ((C : List A) × In C (classes touch L) × In x C × In y C) ↔ Joined (Touching touch L) x y
   class-joined L d = one-set (Touching touch L) (step-both L) (λ y. In y L) (classes touch L) (classes-parted L d)
 
-  -- THE NUMBER OF CONNECTED SETS is the length of any list with one node of each, and there is such a list
+  -- THEOREM: the number of connected sets is the length of any list with one node of each, and there is such a list
   pub sets-number : (L : List A) → Distinct L → (R : List A) → Represents (λ y. In y L) (Joined (Touching touch L)) R → set-count touch L ≡ length R
   unfolding set-count
   sets-number L d R h =

@@ -1,4 +1,4 @@
--- THE COUNT: the connected sets of nodes are the groups less the edges that brought two sets of groups together. Assumes nothing.
+-- The connected sets of nodes are the groups less the edges that brought two sets of groups together. Assumes nothing.
 use mathlib.Core.Path.{_≡_}
 use mathlib.Core.Bool.{Bool, true}
 use mathlib.Core.List.{List, map}
@@ -12,6 +12,7 @@ use Rattle.sets.specs.Laws.Classes.{sets-number}
 use Rattle.sets.specs.Laws.Unions.{unions-number, unions-represent}
 
 module _ {A : Type 0} (touch : A → A → Bool) (both : (x y : A) → touch x y ≡ true → touch y x ≡ true) (L : List A) (d : Distinct L) where
+  -- THEOREM: m groups, less the edges that brought two sets of them together
   pub sets-count : (m : ℕ) (U : ℕ → ℕ → Type 0) (Of : A → ℕ → Type 0) (some : ℕ → A)
       → Grouped (λ y. In y L) (Touching touch L) (λ g. g < m) U Of
       → ((g : ℕ) → g < m → In (some g) L × Of (some g) g)

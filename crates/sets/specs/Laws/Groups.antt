@@ -66,7 +66,7 @@ module _ {A B : Type 0} (N : A → Type 0) (T : A → A → Type 0) (G : B → T
             let n : Of (some r) r = some-in r (c r (inl refl)) .1 in
             a .0 g k (leads-groups (some r) (j .0) x r g (c r (inl refl)) (c g (inr k)) n (subst (λ z. Of z g) (sym e) i) (j .1))
 
-    -- ONE NODE OF EACH SET OF GROUPS, and some node of each of these, is one node of each set of nodes
+    -- THEOREM: one node of each set of groups, and some node of each of these, is one node of each set of nodes
     pub groups-represent : (R : List B) → Represents G (Joined U) R → Represents N (Joined T) (map some R)
     groups-represent R c = record {
       within = λ x m. let (g, k, e) = in-map-to some R x m in subst N (sym e) (some-in g (c .within g k) .0);

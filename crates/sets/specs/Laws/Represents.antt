@@ -49,7 +49,7 @@ module _ {A : Type 0} (J : A → A → Type 0) (sy : (x y : A) → J x y → J y
           go (inl e) = absurd (a .0 q k (tr r (g .0) q (g .2) (rw e (sy q (h .0) (h .2)))))
           go (inr m) = (h .0, m, h .2)
 
-  -- THE NUMBER OF SETS: all lists with one node of each set have one length
+  -- THEOREM: all lists with one node of each set have one length
   pub same-number : (N : A → Type 0) (R S : List A) → Represents N J R → Represents N J S → length R ≡ length S
   same-number N R S c d =
       let l : length R ≤ length S = at-most R S (c .apart) (λ r m. d .every r (c .within r m)) in

@@ -67,7 +67,7 @@ module _ (p : ℕ → ℕ) (f : Falls p) where
   pub top-up : (i : ℕ) → top p (p i) ≡ top p i
   top-up i = sym (stable i (p i) (f i)) ∙ stable (suc i) i (omega arith)
 
-  -- THE LAW OF ROOTS: whatever agrees with the parents, and leaves the roots, gives the root
+  -- THEOREM: whatever agrees with the parents, and leaves the roots, gives the root
   pub top-unique : (g : ℕ → ℕ) → ((k : ℕ) → g (p k) ≡ g k) → ((k : ℕ) → p k ≡ k → g k ≡ k) → (i : ℕ) → top p i ≡ g i
   unfolding top
   top-unique g h r i = sym (r (climb i p i) (climb-root i i (omega arith))) ∙ carried p g h i i

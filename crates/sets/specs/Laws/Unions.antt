@@ -182,7 +182,7 @@ module _ (m : ℕ) where
       unions-sound J sy tr (union P (e .0) (e .1)) (first P f e E b) E (below-rest e E b) (λ d k. h d (inr k))
       (union-sound m P f (e .0) (e .1) (b e (inl refl) .0) (b e (inl refl) .1) J sy tr (h e (inl refl)) s)
 
-  -- EACH EDGE THAT BRINGS TWO SETS TOGETHER LEAVES ONE LESS
+  -- each edge that brings two sets together leaves one root less
   unions-count : (P : List ℕ) → Forest m P → (E : List (ℕ × ℕ)) → Below m E
       → merges P E + length (roots (at (unions P E)) m) ≡ length (roots (at P) m)
   unfolding unions merges
@@ -222,7 +222,7 @@ alone-roots (suc n) P o =
     omega (arith, length-roots (at P) n, c, alone-roots n P (λ k l. o k (omega arith)))
 
 module _ (m : ℕ) (P : List ℕ) (a : Alone m P) (E : List (ℕ × ℕ)) (b : Below m E) where
-  -- THE LAW OF UNIONS: what is left of m is the number of roots ..
+  -- THEOREM: what is left of m is the number of roots ..
   pub unions-number : merges P E + length (roots (at (unions P E)) m) ≡ m
   unions-number = unions-count m P (a .forest) E b ∙ alone-roots m P (a .own)
 
