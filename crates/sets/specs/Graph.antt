@@ -1,4 +1,5 @@
--- Nodes, and what joins them: a list of nodes, each a step from the one before. How many sets that makes. Assumes nothing.
+-- MODEL 22.3, for nodes of any kind: what joins them, a list of nodes, each a step from the one before; the sets that this makes, and how many they are.
+-- Assumes nothing.
 use mathlib.Core.Path.{_≡_}
 use mathlib.Core.Logic.{_⊎_}
 use mathlib.Core.Bool.{Bool, true, false, cond, _||_}
@@ -22,7 +23,7 @@ module _ {A : Type 0} where
   Leads T x [] y = x ≡ y
   Leads T x (z ∷ P) y = T x z × Leads T z P y
 
-  -- steps join x and y: a list of nodes leads from one to the other
+  -- MODEL 22.3: steps join x and y: a list of nodes leads from one to the other
   abbrev pub Joined : (A → A → Type 0) → A → A → Type 0
   Joined T x y = (P : List A) × Leads T x P y
 
@@ -31,7 +32,7 @@ module _ {A : Type 0} where
   Unrelated J [] = Unit {0}
   Unrelated J (r ∷ R) = ((s : A) → In s R → J r s → ⊥) × Unrelated J R
 
--- R has one node of each set: all are nodes, no two are joined, and every node is joined to one of them.
+-- MODEL 22.3: R has one node of each set: all are nodes, no two are joined, and every node is joined to one of them.
 -- So the length of R is the number of sets (`same-number` in Laws/Represents: all such lists have one length).
 pub record Represents {A : Type 0} (N : A → Type 0) (J : A → A → Type 0) (R : List A) : Type 0 where
   pub within : (r : A) → In r R → N r
@@ -60,12 +61,12 @@ module _ {A : Type 0} (touch : A → A → Bool) where
       let s = C ∷ r in
       cond (touches x C) r s
 
-  -- the connected sets of the nodes L: node by node, each makes one set with all those that it touches
+  -- MODEL 22.3: the connected sets of the nodes L: node by node, each makes one set with all those that it touches
   unfoldable pub classes : List A → List (List A)
   classes [] = []
   classes (x ∷ L) = (x ∷ met x (classes L)) ∷ unmet x (classes L)
 
-  -- how many connected sets the nodes L have
+  -- MODEL 22.3: how many connected sets the nodes L have
   unfoldable pub set-count : List A → ℕ
   set-count L = length (classes L)
 
