@@ -1,9 +1,8 @@
 /* Where circuits may go on an FPGA card of mixed columns: the calls of target/staticlib/libcard.a.
  *
- * `rt staticlib card` proves and builds the archive. A byte string passes as a
- * pointer and a length, a number that is written as a pointer alone. A number of
- * two bytes has its low byte first. Heights,
- * bottoms and tops are in half rows. docs/MODEL.md defines all that is used here.
+ * `rt staticlib card` proves and builds the archive. A byte string passes as a pointer and a length, a number that is
+ * written as a pointer alone. A number of two bytes has its low byte first. Heights, bottoms and tops are in half
+ * rows. docs/MODEL.md defines all that is used here.
  *
  *   A task has 1 to 32 blocks of 6 bytes each: a column, a kind, and a bottom and a top, which are signed and have
  *   two bytes. Column, bottom and top count from the column and the bottom of the first block.
@@ -14,7 +13,7 @@
  *   - each pointer is valid for its length, for writing where it is not const; with length 0 it may be any, NULL too;
  *   - each pointer to a number is aligned and valid for writing it: it is never NULL;
  *   - what is written, a part or a number, overlaps nothing else of the same call;
- *   - nobody else writes a part while a call uses it, or reads one that it writes.
+ *   - nobody else writes a part or a number while a call uses it, or reads one that it writes.
  *
  * Promised, and proved, for all bytes, lengths and numbers whatever:
  *   - the answer and every byte are those that the model defines;
@@ -139,11 +138,12 @@ int32_t card_choose(const uint8_t *record, size_t record_len, const uint8_t *tas
 /* Answers how many free intervals a column has, or -1, -2 or -3. They stand in the record, as said above. */
 int32_t card_interval_count(const uint8_t *record, size_t record_len, uint32_t column);
 
-/* Answers how many connected sets the free cells make, and writes how many cells are free, and the degree in hundredths
-   of a percent, 10,000 * (sets - 1) / (free - 1) rounded down, or 0 with one free cell or none. Free cells touch one
-   above the other in a column, and in columns side by side where they share a half row; a connected set is a free cell
-   with all that can be reached from it over free cells that touch. With no free cell it answers 0. Or answers -1 or -2, and writes two zeros. */
-int32_t card_fragmentation(const uint8_t *record, size_t record_len, int32_t *free, int32_t *degree);
+/* Answers how many connected sets the free cells make, 0 where no cell is free, and writes how many cells are free and
+   the degree in hundredths of a percent: 10,000 * (sets - 1) / (free cells - 1) rounded down, or 0 where fewer than two
+   are free. Free cells touch one above the other in a column, and in columns side by side where they share a half row;
+   a connected set is a free cell with all that can be reached from it over free cells that touch.
+   Or answers -1 or -2, and writes two zeros. */
+int32_t card_fragmentation(const uint8_t *record, size_t record_len, int32_t *free_cells, int32_t *degree);
 
 #ifdef __cplusplus
 }

@@ -53,12 +53,12 @@ fn loads() -> [Load; 4] {
     })
 }
 
-/// The two loads on which no further task may run, so that only calls without a task are measured.
+/// The two loads on which 64 tasks run; only calls without a task are measured.
 fn full_loads() -> [Load; 2] {
     made(|subject| [loads::stripes(subject), loads::chessboard(subject)])
 }
 
-/// Measures every call on every load.
+/// Measures the calls on every load.
 fn measure_calls(effort: Effort) -> Vec<Figure> {
     let probes = [loads::mixed_probe(), loads::comb_probe()];
     let mut all = Vec::new();

@@ -1,6 +1,6 @@
 //! The names of the parts of a run, of what is measured and of the ratios, as they stand in the stored runs and the tables.
 
-/// The part with every call on every load.
+/// The part with the calls on every load.
 pub const CALLS: &str = "calls";
 /// The part with the searches without the check of the record.
 pub const SEARCHES: &str = "searches";

@@ -3,8 +3,8 @@
 //! A byte slice passes as a pointer and then a length, a number that is written as
 //! a pointer alone. A caller keeps that each pointer is valid for its length, for
 //! writing where it is `*mut` (with length 0 it may be any, null too), that one to a
-//! number is valid and aligned, and that what is written overlaps nothing else of the
-//! call. Everything else is promised: any bytes, lengths and numbers get the
+//! number is valid and aligned, that what is written overlaps nothing else of the
+//! call, and that nobody else uses it meanwhile. Everything else is promised: any bytes, lengths and numbers get the
 //! model's answer. No pointer is kept. [`bytes`](crate::bytes) has the same functions on slices.
 //!
 //! Nothing checks these declarations against the source, so they stand in this
