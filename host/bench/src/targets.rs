@@ -39,117 +39,88 @@ pub struct Target {
 }
 
 /// Each call beside plain Rust.
-pub const SLOWNESS: Measure = Measure {
-    part: CALLS,
-    call: "",
-    ratio: (PROVED, PLAIN),
-    better: Better::Lower,
-};
-
+pub const SLOWNESS: Measure = Measure::lower(CALLS, "", (PROVED, PLAIN));
 /// Choose beside the matrix scan.
-pub const CHOICE: Measure = Measure {
-    part: CALLS,
-    call: "choose",
-    ratio: (MATRIX, PROVED),
-    better: Better::Higher,
-};
-
+pub const CHOICE: Measure = Measure::higher(CALLS, "choose", (MATRIX, PROVED));
 /// The search of list beside the matrix scan's.
-pub const SEARCH: Measure = Measure {
-    part: SEARCHES,
-    call: "list",
-    ratio: (PROVED, MATRIX),
-    better: Better::Lower,
-};
-
+pub const SEARCH: Measure = Measure::lower(SEARCHES, "list", (PROVED, MATRIX));
 /// The check of the record beside memcmp.
-pub const CHECK: Measure = Measure {
-    part: CALLS,
-    call: "interval count",
-    ratio: (PROVED, MEMCMP),
-    better: Better::Lower,
-};
-
+pub const CHECK: Measure = Measure::lower(CALLS, "interval count", (PROVED, MEMCMP));
 /// Fragmentation beside plain Rust.
-pub const SETS: Measure = Measure {
-    part: CALLS,
-    call: "fragmentation",
-    ratio: (PROVED, PLAIN),
-    better: Better::Lower,
-};
-
+pub const SETS: Measure = Measure::lower(CALLS, "fragmentation", (PROVED, PLAIN));
 /// Fragmentation beside the flood fill of a cell matrix.
-pub const FLOOD: Measure = Measure {
-    part: CALLS,
-    call: "fragmentation",
-    ratio: (MATRIX, PROVED),
-    better: Better::Higher,
-};
-
+pub const FLOOD: Measure = Measure::higher(CALLS, "fragmentation", (MATRIX, PROVED));
 /// Fragmentation beside the flood fill, both without the check.
-pub const FLOOD_ALONE: Measure = Measure {
-    part: SEARCHES,
-    call: "fragmentation",
-    ratio: (PROVED, MATRIX),
-    better: Better::Lower,
-};
+pub const FLOOD_ALONE: Measure = Measure::lower(SEARCHES, "fragmentation", (PROVED, MATRIX));
 
 /// The least ratio above 1 that a stored run can have: it has four digits.
 const ABOVE_ONE: f64 = 1.0001;
 
 /// The targets.
 pub const TARGETS: [Target; 8] = [
-    Target {
-        words: "each call takes at most 2 times as long as plain",
-        measure: SLOWNESS,
-        bound: 2.0,
-        load: None,
-    },
-    Target {
-        words: "choose is at least 5 times as fast as matrix, check included",
-        measure: CHOICE,
-        bound: 5.0,
-        load: None,
-    },
-    Target {
-        words: "the search of list takes at most as long as matrix, check left out",
-        measure: SEARCH,
-        bound: 1.0,
-        load: None,
-    },
-    Target {
-        words: "the check of the record takes at most 4 times as long as memcmp",
-        measure: CHECK,
-        bound: 4.0,
-        load: Some("empty, 128 rows"),
-    },
-    Target {
-        words: "the check of the record takes at most 8 times as long as memcmp",
-        measure: CHECK,
-        bound: 8.0,
-        load: Some("20 tasks of 5 blocks"),
-    },
-    Target {
-        words: "fragmentation takes at most 2 times as long as plain",
-        measure: SETS,
-        bound: 2.0,
-        load: None,
-    },
-    Target {
-        words: "fragmentation is faster than the flood fill of matrix, check included",
-        measure: FLOOD,
-        bound: ABOVE_ONE,
-        load: None,
-    },
-    Target {
-        words: "fragmentation takes at most as long as the flood fill of matrix, check left out",
-        measure: FLOOD_ALONE,
-        bound: 1.0,
-        load: None,
-    },
+    SLOWNESS.target("each call takes at most 2 times as long as plain", 2.0),
+    CHOICE.target(
+        "choose is at least 5 times as fast as matrix, check included",
+        5.0,
+    ),
+    SEARCH.target(
+        "the search of list takes at most as long as matrix, check left out",
+        1.0,
+    ),
+    CHECK
+        .target(
+            "the check of the record takes at most 4 times as long as memcmp",
+            4.0,
+        )
+        .on("empty, 128 rows"),
+    CHECK
+        .target(
+            "the check of the record takes at most 8 times as long as memcmp",
+            8.0,
+        )
+        .on("20 tasks of 5 blocks"),
+    SETS.target("fragmentation takes at most 2 times as long as plain", 2.0),
+    FLOOD.target(
+        "fragmentation is faster than the flood fill of matrix, check included",
+        ABOVE_ONE,
+    ),
+    FLOOD_ALONE.target(
+        "fragmentation takes at most as long as the flood fill of matrix, check left out",
+        1.0,
+    ),
 ];
 
 impl Measure {
+    /// A ratio of calls that is better the lower it is.
+    const fn lower(part: &'static str, call: &'static str, ratio: Ratio) -> Measure {
+        let better = Better::Lower;
+        Measure {
+            part,
+            call,
+            ratio,
+            better,
+        }
+    }
+
+    /// A ratio of calls that is better the higher it is.
+    const fn higher(part: &'static str, call: &'static str, ratio: Ratio) -> Measure {
+        let better = Better::Higher;
+        Measure {
+            better,
+            ..Measure::lower(part, call, ratio)
+        }
+    }
+
+    /// A target for it, on all loads that have its calls.
+    const fn target(self, words: &'static str, bound: f64) -> Target {
+        Target {
+            words,
+            measure: self,
+            bound,
+            load: None,
+        }
+    }
+
     /// The worse of two ratios.
     fn worse(&self, a: f64, b: f64) -> f64 {
         match self.better {
@@ -191,6 +162,14 @@ impl Measure {
 }
 
 impl Target {
+    /// The same on one load alone.
+    const fn on(self, load: &'static str) -> Target {
+        Target {
+            load: Some(load),
+            ..self
+        }
+    }
+
     /// Whether a ratio meets it.
     pub fn is_met(&self, ratio: f64) -> bool {
         self.measure.worse(ratio, self.bound) == self.bound

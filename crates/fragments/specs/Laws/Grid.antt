@@ -1,6 +1,6 @@
 -- MODEL 22.3: the runs of free cells of a card are groups of its free cells, and touch where their half rows meet: so sets of cells are counted by runs. Assumes nothing.
 use mathlib.Core.Path.{_≡_, refl, sym, ap, subst, _∙_}
-use mathlib.Core.Logic.{_⊎_, inl, inr, ⊎-elim, _↔_}
+use mathlib.Core.Logic.{_⊎_, inl, inr, ⊎-elim, ⊎-swap, _↔_}
 use mathlib.Core.List.{List}
 use Prim.Native.Nat.{ℕ, zero, suc, _+_, _-_, _*_, _/_, _%_, _≤_, _<_}
 use native.Mathlib.Nat.{div-add-mod, mod-lt, div-lt-iff-lt-mul, le-div-iff-mul-le, mul-le-mul-left}
@@ -20,10 +20,6 @@ use Rattle.fragments.specs.Sweep.{Shares, edge, edges}
 use Rattle.fragments.specs.Nodes.{base, run-at, half-rows-at, beside, card-edges}
 use Rattle.fragments.specs.Laws.Indexed.{Within, named-place, place-named, place-low, place-rises, one-place, base-below, base-unique, base-find}
 use Rattle.fragments.specs.Laws.Sweep.{edges-sound, edges-complete}
-
-swap : {A B : Type 0} → A ⊎ B → B ⊎ A
-swap (inl a) = inr a
-swap (inr b) = inl b
 
 -- ---- two runs whose half rows meet have cells that do
 
@@ -212,6 +208,6 @@ module _ (C : ℕ) (h : ℕ → ℕ) (pos : (c : ℕ) → 1 ≤ h c) (R : ℕ �
     pub card-count : (P : List ℕ) → Alone (base R C) P → merges P (card-edges h R C) + set-count (touch h) L ≡ base R C
     card-count P a =
         sets-count (touch h) (touch-both h) L d (base R C) Meet Of (λ g. pick g (lt-or-ge g (base R C))) grouped
-        (λ g l. pick-of g (lt-or-ge g (base R C)) l) (λ g k m. swap m) P a (card-edges h R C) edges-below
+        (λ g l. pick-of g (lt-or-ge g (base R C)) l) (λ g k m. ⊎-swap m) P a (card-edges h R C) edges-below
         (λ e m. joined-step Meet (e .0) (e .1) (inl (edges-next e m)))
         (λ g k m. joined-step (Edge (card-edges h R C)) g k (⊎-elim (λ n. inl (next-edges g k n)) (λ n. inr (next-edges k g n)) m))

@@ -3,7 +3,7 @@
 -- Assumes nothing.
 use Prim.Native.Nat.{ℕ, zero, suc, _-_, _*_, _≤_, _<_}
 use mathlib.Core.Path.{_≡_, refl, sym, ap, _∙_}
-use mathlib.Core.Logic.{_⊎_, inl, inr, ⊎-elim, _↔_}
+use mathlib.Core.Logic.{_⊎_, inl, inr, ⊎-elim, ⊎-swap, _↔_}
 use mathlib.Core.Bool.{true, _&&_}
 use mathlib.Core.List.{List, map}
 use native.Mathlib.Nat.{zero-mul, zero-div, mul-div-left, div-le-of-le-mul}
@@ -78,15 +78,12 @@ module _ (h : ℕ → ℕ) (x y : Cell) where
       or-of (neighbours x y) _
       (inr (and-of _ _ (adjacent-of (x .column) (y .column) (a .0)) (and-of _ _ (lt-ltb _ _ (a .1 .0)) (lt-ltb _ _ (a .1 .1)))))
 
-adjacent-both : (m n : ℕ) → Adjacent m n → Adjacent n m
-adjacent-both m n a = ⊎-elim (λ e. inr e) (λ e. inl e) a
-
 -- MODEL 22.1: touching goes both ways
 pub touch-both : (h : ℕ → ℕ) (x y : Cell) → touch h x y ≡ true → touch h y x ≡ true
 touch-both h x y t =
     touch-of h y x
-    (⊎-elim (λ n. inl (sym (n .0), adjacent-both (x .number) (y .number) (n .1)))
-    (λ a. inr (adjacent-both (x .column) (y .column) (a .0), (a .1 .1, a .1 .0)))
+    (⊎-elim (λ n. inl (sym (n .0), ⊎-swap (n .1)))
+    (λ a. inr (⊎-swap (a .0), (a .1 .1, a .1 .0)))
     (touch-to h x y t))
 
 -- ---- the free cells

@@ -1,4 +1,4 @@
--- What `classes` computes: two nodes are in one class exactly where touching joins them, and `sets` is the number of sets. Assumes nothing.
+-- What `classes` computes: two nodes are in one class exactly where touching joins them, and `set-count` is the number of sets. Assumes nothing.
 use mathlib.Core.Path.{_≡_, refl, sym, ap, _∙_}
 use mathlib.Core.Logic.{_⊎_, inl, inr, _↔_}
 use mathlib.Core.Bool.{Bool, true, false, _||_, true≢false}

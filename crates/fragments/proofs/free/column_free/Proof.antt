@@ -9,15 +9,14 @@ use Rattle.model.specs.Limits.{max-columns, record-size}
 use Rattle.model.specs.Columns.{kind}
 use Rattle.model.specs.Record.{device-of}
 use Rattle.model.specs.Laws.Columns.{height-pos}
-use Rattle.model.specs.Laws.Sound.{sound-length}
-use Rattle.fragments.specs.Laws.OnBytes.{few-columns, part-with}
+use Rattle.fragments.specs.Laws.OnBytes.{column-place, part-with}
 use Rattle.fragments.specs.Laws.Free.{listed-canon}
 use Rattle.fragments.proofs.free.column_free.Statement.{statement}
 use Rattle.fragments.proofs.free.column_free.Tie as tie
 
 -- the column has a place in the record
 place : (c : tie.Start) → (c .args .c < max-columns) × (length (c .args .«record» .now) ≡ record-size)
-place c = let (s, l) = c .pre in (omega (arith, few-columns _ s, l), sound-length _ s)
+place c = column-place _ (c .pre .0) _ (c .pre .1)
 
 mul-a : tie.Need-mul-a
 mul-a c = omega (arith, place (c .before))

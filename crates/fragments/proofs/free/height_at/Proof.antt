@@ -7,15 +7,14 @@ use lib.ListN.{length, getD}
 use Rattle.model.specs.Limits.{max-columns, kinds-at, record-size}
 use Rattle.model.specs.Columns.{height}
 use Rattle.model.specs.Laws.Kinds.{kind-known, kind-unknown}
-use Rattle.model.specs.Laws.Sound.{sound-length}
-use Rattle.fragments.specs.Laws.OnBytes.{few-columns}
+use Rattle.fragments.specs.Laws.OnBytes.{column-place}
 use Rattle.fragments.specs.Laws.Free.{kind-byte, kind-small}
 use Rattle.fragments.proofs.free.height_at.Statement.{statement}
 use Rattle.fragments.proofs.free.height_at.Tie as tie
 
 -- the column has a place in the record
 place : (c : tie.Start) → (c .args .c < max-columns) × (length (c .args .«record» .now) ≡ record-size)
-place c = let (s, l) = c .pre in (omega (arith, few-columns _ s, l), sound-length _ s)
+place c = column-place _ (c .pre .0) _ (c .pre .1)
 
 add-of-byte : tie.Need-add-of-byte
 add-of-byte c = omega (arith, place (c .before))
