@@ -1,4 +1,5 @@
-//! The choice: the fitting position whose n / s is least.
+//! The choice: the fitting position whose n / s is least (document 01, with s as in
+//! document 02, W2).
 
 use crate::cells::{intervals, CellSet, Interval};
 use crate::device::Device;
@@ -10,7 +11,7 @@ use crate::task::Task;
 pub struct Score {
     /// n: how many intervals are left of those into which a block is put.
     pub pieces: i64,
-    /// s: block by block, the height of the interval into which it is put, added up.
+    /// s: the heights of the intervals into which a block is put, added up, none twice.
     pub stretch: i64,
 }
 
@@ -21,34 +22,45 @@ impl Score {
     }
 }
 
+/// An interval with its column. Columns may have intervals of one bottom and one top, and
+/// the column tells them apart.
+type Holder = (usize, Interval);
+
 /// The score of a position; none where the task does not fit.
+///
+/// The holders are found first: s adds up their heights, n counts what is left in them.
 pub fn score(device: &Device, free: &CellSet, task: &Task, at: Position) -> Option<Score> {
     if !fits(device, free, task, at) {
         return None;
     }
-    let mut stretch = 0;
-    // The intervals that hold a block, each once: two blocks may share one.
-    let mut holders: Vec<(usize, Interval)> = Vec::new();
-    for block in task.blocks() {
-        let column = moved_column(device, block, at)?;
-        let holder = intervals(device, free, column)
-            .into_iter()
-            .find(|interval| interval.holds(moved(block, at)))?;
-        stretch += holder.height();
-        if !holders.contains(&(column, holder)) {
-            holders.push((column, holder));
-        }
-    }
+    let holders = holders(device, free, task, at)?;
     let mut free_after = free.clone();
     for (column, cell) in cells_of(device, task, at)? {
         free_after.remove(column, cell);
     }
     let pieces = pieces(device, &free_after, &holders);
+    let stretch = holders.iter().map(|(_, holder)| holder.height()).sum();
     Some(Score { pieces, stretch })
 }
 
+/// The free intervals into which the blocks of a task are put, each once even where several
+/// blocks share it.
+fn holders(device: &Device, free: &CellSet, task: &Task, at: Position) -> Option<Vec<Holder>> {
+    let mut found = Vec::new();
+    for block in task.blocks() {
+        let column = moved_column(device, block, at)?;
+        let interval = intervals(device, free, column)
+            .into_iter()
+            .find(|interval| interval.holds(moved(block, at)))?;
+        if !found.contains(&(column, interval)) {
+            found.push((column, interval));
+        }
+    }
+    Some(found)
+}
+
 /// How many free intervals lie inside the given ones.
-fn pieces(device: &Device, free: &CellSet, holders: &[(usize, Interval)]) -> i64 {
+fn pieces(device: &Device, free: &CellSet, holders: &[Holder]) -> i64 {
     let mut count = 0;
     for &(column, holder) in holders {
         let inside = intervals(device, free, column)

@@ -1,6 +1,6 @@
 //! A reference implementation ("oracle") of documents 01 and 02, cell by cell.
 //!
-//! It is written from these documents alone (of 02, request W1 is in), without a
+//! It is written from these documents alone (of 02, W1 and W2 are in), without a
 //! look at the definitions of the proved library, and searches by trying everything:
 //! every position, every cell. The library is compared with it, so where the two
 //! differ one of them has misread a document. `docs/MODEL.md` states the same in

@@ -1,9 +1,9 @@
-//! The small cards K1 to K10 (MODEL 19.1), and cards cut up as far as can be.
+//! The small cards K1 to K10 (MODEL 19.1), the comb's card K18 (MODEL 19.3), and
+//! cards cut up as far as can be.
 
-use crate::helpers::{card, listing, task, view};
+use crate::helpers::{card, listing, score_of, task, view};
 use oracle::calls::{choose, interval_count, place, release};
-use oracle::choice::score;
-use oracle::{Book, Position, Task};
+use oracle::Book;
 
 #[test]
 fn k1_no_cell() {
@@ -31,13 +31,7 @@ fn k3_mixed_task() {
     let record = card(5, "CCB");
     assert_eq!(listing(&record, &mixed()), Ok(vec![(0, 10, 4, 4)]));
     let book = Book::new(5, &[0, 0, 1]).unwrap();
-    let at = Position {
-        column: 0,
-        bottom: 4,
-    };
-    let task = Task::from_bytes(&mixed()).unwrap();
-    let score = score(book.device(), &book.free_cells(), &task, at).unwrap();
-    assert_eq!((score.pieces, score.stretch), (5, 30));
+    assert_eq!(score_of(&book, &mixed(), 0, 4), (5, 30));
 }
 
 #[test]
@@ -102,6 +96,24 @@ fn k10_listing_and_choice_beside_a_running_task() {
     let ranges = vec![(0, 2, 0, 0), (0, 2, 6, 6), (1, 2, 6, 6)];
     assert_eq!(listing(&record, &tall), Ok(ranges));
     assert_eq!(choose(&record, &tall), 0);
+}
+
+#[test]
+fn k18_a_comb_with_each_interval_once() {
+    // Free are 0-2 and 4-10. At 0 the comb stands in both, at 4 with both teeth in the upper.
+    let one = task(&[(0, 'C', 0, 2)]);
+    let comb = task(&[(0, 'C', 0, 2), (0, 'C', 4, 6)]);
+    let mut record = card(5, "C");
+    assert_eq!(place(&mut record, &one, 1, 0, 2), 0);
+    assert_eq!(view(&record, 0), [(0, 2), (4, 10)]);
+    let ranges = vec![(0, 2, 0, 0), (0, 2, 4, 4)];
+    assert_eq!(listing(&record, &comb), Ok(ranges));
+    let mut book = Book::new(5, &[0]).unwrap();
+    book.place(&one, 1, 0, 2).unwrap();
+    assert_eq!(score_of(&book, &comb, 0, 0), (1, 8));
+    assert_eq!(score_of(&book, &comb, 0, 4), (1, 6));
+    // 1/8 is less than 1/6. With the upper interval's height for each tooth it would be 1/12.
+    assert_eq!(choose(&record, &comb), 0);
 }
 
 #[test]

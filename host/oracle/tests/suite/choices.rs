@@ -1,17 +1,23 @@
 //! The choice on random cards: it fits, it is minimal, ties go low; n and s
 //! against a second reckoning on half rows.
 
-use crate::helpers::{card, task};
+use std::ops::Range;
+
+use crate::helpers::{card, score_of, task};
 use crate::positions::{fits_on_half_rows, free_half_rows};
 use oracle::arbitrary;
 use oracle::calls::{choose, place};
 use oracle::choice::{score, Score};
 use oracle::fit::fitting_positions;
 use oracle::rng::Rng;
+use oracle::task::Block;
 use oracle::{Book, Position, Task};
 
+/// Half rows by column, each marked or not.
+pub type Marks = Vec<Vec<bool>>;
+
 /// The maximal runs of true, as first and one past the last.
-fn runs(free: &[bool]) -> Vec<(usize, usize)> {
+pub fn runs(free: &[bool]) -> Vec<(usize, usize)> {
     let starts = (0..free.len()).filter(|&i| free[i] && (i == 0 || !free[i - 1]));
     let end = |start: usize| (start..free.len()).find(|&i| !free[i]);
     starts
@@ -19,35 +25,54 @@ fn runs(free: &[bool]) -> Vec<(usize, usize)> {
         .collect()
 }
 
-/// n and s on half rows: runs before, and what is left of those that held a block.
-fn score_on_half_rows(free: &[Vec<bool>], task: &Task, at: Position) -> Score {
-    let mut after = free.to_vec();
-    let mut held: Vec<Vec<bool>> = free.iter().map(|rows| vec![false; rows.len()]).collect();
-    let mut stretch = 0;
+/// The column and the half rows on which a block comes to stand.
+pub fn standing(block: &Block, at: Position) -> (usize, Range<usize>) {
+    let column = at.column as usize + usize::from(block.column);
+    let start = at.bottom + i32::from(block.bottom);
+    let end = at.bottom + i32::from(block.top);
+    (column, start as usize..end as usize)
+}
+
+/// Marks the half rows that can be reached from a block, up and down over free ones.
+///
+/// What two blocks both reach is marked once.
+pub fn reached(free: &Marks, task: &Task, at: Position) -> Marks {
+    let mut marks: Marks = free.iter().map(|rows| vec![false; rows.len()]).collect();
     for block in task.blocks() {
-        let column = at.column as usize + usize::from(block.column);
-        let start = (at.bottom + i32::from(block.bottom)) as usize;
-        let end = (at.bottom + i32::from(block.top)) as usize;
-        let before = runs(&free[column]);
-        let &(low, high) = before
-            .iter()
-            .find(|run| run.0 <= start && end <= run.1)
-            .unwrap();
-        stretch += (high - low) as i64;
-        after[column][start..end].fill(false);
-        held[column][low..high].fill(true);
+        let (column, rows) = standing(block, at);
+        let is_free = |row: &usize| free[column][*row];
+        let down = (0..rows.start).rev().take_while(is_free);
+        let up = (rows.start..free[column].len()).take_while(is_free);
+        for row in down.chain(up) {
+            marks[column][row] = true;
+        }
     }
-    let mut pieces = 0;
-    for (column, rows) in after.iter().enumerate() {
-        pieces += runs(rows).iter().filter(|run| held[column][run.0]).count() as i64;
+    marks
+}
+
+/// n and s on half rows: s is how many are reached, n is the runs of these that no block covers.
+pub fn score_on_half_rows(free: &Marks, task: &Task, at: Position) -> Score {
+    let mut left = reached(free, task, at);
+    let stretch = left.iter().flatten().filter(|&&mark| mark).count() as i64;
+    for block in task.blocks() {
+        let (column, rows) = standing(block, at);
+        left[column][rows].fill(false);
     }
+    let pieces = left.iter().map(|rows| runs(rows).len() as i64).sum();
     Score { pieces, stretch }
+}
+
+/// How many intervals hold a block, on half rows: what is reached are whole intervals, and
+/// no two of them touch.
+fn holders_on_half_rows(free: &Marks, task: &Task, at: Position) -> usize {
+    let marks = reached(free, task, at);
+    marks.iter().map(|rows| runs(rows).len()).sum()
 }
 
 #[test]
 fn weights_agree_on_half_rows() {
     let mut rng = Rng::new(40);
-    let mut scored = 0;
+    let (mut scored, mut sharing) = (0, 0);
     for _ in 0..250 {
         let book = arbitrary::book(&mut rng, 40);
         let free = free_half_rows(&book);
@@ -58,10 +83,12 @@ fn weights_agree_on_half_rows() {
             assert!(fits_on_half_rows(&book, &free, &task, at));
             let score = score(book.device(), &cells, &task, at);
             assert_eq!(score, Some(score_on_half_rows(&free, &task, at)));
+            let holders = holders_on_half_rows(&free, &task, at);
+            sharing += usize::from(holders < task.blocks().len());
             scored += 1;
         }
     }
-    assert!(scored > 3000, "{scored}");
+    assert!(scored > 3000 && sharing > 1000, "{scored} {sharing}");
 }
 
 #[test]
@@ -89,22 +116,51 @@ fn the_chosen_position_is_the_first_of_the_least() {
     assert!(not_the_first > 20, "{not_the_first}");
 }
 
-/// The score of a task at a position of a book.
-fn score_of(book: &Book, bytes: &[u8], column: u32, bottom: i32) -> (i64, i64) {
-    let task = Task::from_bytes(bytes).unwrap();
-    let at = Position { column, bottom };
-    let score = score(book.device(), &book.free_cells(), &task, at).unwrap();
-    (score.pieces, score.stretch)
+#[test]
+fn two_blocks_in_one_interval() {
+    // The interval is counted once, and so is what is left of it.
+    let book = Book::new(10, &[0]).unwrap();
+    let apart = task(&[(0, 'C', 0, 2), (0, 'C', 4, 6)]);
+    assert_eq!(score_of(&book, &apart, 0, 0), (2, 20));
+    assert_eq!(score_of(&book, &apart, 0, 2), (3, 20));
+    assert_eq!(score_of(&book, &apart, 0, 14), (2, 20));
 }
 
 #[test]
-fn two_blocks_in_one_interval() {
-    // The rest of the interval is counted once, its height once for each block.
-    let book = Book::new(10, &[0]).unwrap();
-    let apart = task(&[(0, 'C', 0, 2), (0, 'C', 4, 6)]);
-    assert_eq!(score_of(&book, &apart, 0, 0), (2, 40));
-    assert_eq!(score_of(&book, &apart, 0, 2), (3, 40));
-    assert_eq!(score_of(&book, &apart, 0, 14), (2, 40));
+fn alike_intervals_of_two_columns_are_two() {
+    // Both columns have 0-6 and 8-20 free.
+    let mut book = Book::new(10, &[0, 0]).unwrap();
+    let pair = task(&[(0, 'C', 0, 2), (1, 'C', 0, 2)]);
+    book.place(&pair, 1, 0, 6).unwrap();
+    assert_eq!(book.intervals(0), book.intervals(1));
+    assert_eq!(score_of(&book, &pair, 0, 0), (2, 12));
+    assert_eq!(score_of(&book, &pair, 0, 2), (4, 12));
+    assert_eq!(score_of(&book, &pair, 0, 8), (2, 24));
+    // Two teeth in each column: still two intervals.
+    let combs = [
+        (0, 'C', 0, 2),
+        (0, 'C', 4, 6),
+        (1, 'C', 0, 2),
+        (1, 'C', 4, 6),
+    ];
+    assert_eq!(score_of(&book, &task(&combs), 0, 0), (2, 12));
+    assert_eq!(score_of(&book, &task(&combs), 0, 10), (6, 24));
+    // Alike in columns of two kinds, 0-10 each.
+    let book = Book::new(5, &[1, 2]).unwrap();
+    let mixed = task(&[(0, 'B', 0, 5), (1, 'D', 0, 5)]);
+    assert_eq!(score_of(&book, &mixed, 0, 5), (2, 20));
+}
+
+#[test]
+fn three_blocks_in_two_intervals() {
+    // Free are 0-6 and 8-20; two blocks in the lower, then two in the upper, then all three.
+    let mut book = Book::new(10, &[0]).unwrap();
+    book.place(&task(&[(0, 'C', 0, 2)]), 1, 0, 6).unwrap();
+    let even = task(&[(0, 'C', 0, 2), (0, 'C', 4, 6), (0, 'C', 8, 10)]);
+    assert_eq!(score_of(&book, &even, 0, 0), (2, 18));
+    let wide = task(&[(0, 'C', 0, 2), (0, 'C', 8, 10), (0, 'C', 12, 14)]);
+    assert_eq!(score_of(&book, &wide, 0, 0), (3, 18));
+    assert_eq!(score_of(&book, &even, 0, 8), (3, 12));
 }
 
 #[test]

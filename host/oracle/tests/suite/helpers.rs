@@ -1,10 +1,12 @@
 //! Short ways to write cards, tasks and listings by hand.
 
 use oracle::calls;
+use oracle::choice::score;
 use oracle::device::Kind;
 use oracle::layout::RECORD_SIZE;
 use oracle::listing::{read_ranges, LIST_ROOM};
 use oracle::task::{bytes_of, Block};
+use oracle::{Book, Position, Task};
 
 /// A task's bytes from column, kind letter, bottom and top of each block.
 pub fn task(blocks: &[(u8, char, i16, i16)]) -> Vec<u8> {
@@ -56,4 +58,12 @@ pub fn view(record: &[u8], column: u32) -> Vec<(u16, u16)> {
         (bottom, u16::from_le_bytes([b[2], b[3]]))
     };
     part.chunks(4).map(pair).collect()
+}
+
+/// n and s of a task at a position of a book.
+pub fn score_of(book: &Book, bytes: &[u8], column: u32, bottom: i32) -> (i64, i64) {
+    let task = Task::from_bytes(bytes).unwrap();
+    let at = Position { column, bottom };
+    let score = score(book.device(), &book.free_cells(), &task, at).unwrap();
+    (score.pieces, score.stretch)
 }

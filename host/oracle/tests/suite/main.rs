@@ -2,6 +2,7 @@
 
 mod cards;
 mod choices;
+mod combs;
 mod damage;
 mod fragments;
 mod fragments_random;
