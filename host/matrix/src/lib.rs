@@ -94,7 +94,7 @@ impl Matrix {
         (bottom - below.count(), top + above.count())
     }
 
-    /// n and s of a fitting position: pieces and stretch.
+    /// n and s of a fitting position: pieces and stretch. A free run counts once in the stretch.
     fn score(&self, task: &Task, column: usize, bottom: i32) -> (u32, u32) {
         let (mut pieces, mut stretch) = (0, 0);
         let mut previous = None;
@@ -103,10 +103,13 @@ impl Matrix {
             let top = (bottom + block.top()) as usize;
             let bottom = (bottom + block.bottom()) as usize;
             let (start, end) = self.home(here, bottom, top);
-            // The piece between two blocks of one run is the one above the lower block.
-            let is_first = previous != Some((here, start));
-            pieces += u32::from(is_first && start < bottom) + u32::from(top < end);
-            stretch += (end - start) as u32;
+            // Blocks of one run follow each other. The first counts the run's height, and the piece
+            // below it: the piece between two blocks is the one above the lower block.
+            if previous != Some((here, start)) {
+                pieces += u32::from(start < bottom);
+                stretch += (end - start) as u32;
+            }
+            pieces += u32::from(top < end);
             previous = Some((here, start));
         }
         (pieces, stretch)
