@@ -1,28 +1,30 @@
 -- MODEL 11: what the functions that look for the choice answer. Assumes nothing.
-use Prim.Native.Nat.{ℕ, suc, _+_, _*_, _≤_, _<_}
+use Prim.Native.Nat.{ℕ, zero, suc, _+_, _-_, _*_, _≤_, _<_, min}
 use mathlib.Core.Path.{_≡_}
 use mathlib.Core.Logic.{_⊎_}
 use mathlib.Core.Bool.{Bool, true, false, not, cond, _&&_}
 use mathlib.Core.List.{List}
-use lib.Dec.{ltb, eqb}
+use lib.Dec.{leb, ltb, eqb}
 use lib.IntN.{ℤ, pos, negℤ}
 use lib.ListN.{length, getD}
 use Rattle.runs.specs.Runs.{Run, run, Steps, In}
 use Rattle.runs.specs.Intervals.{Interval, interval}
 use Rattle.runs.specs.declared.Range.{Range}
 use Rattle.model.specs.Limits.{max-rows, max-columns, max-blocks, column-weight, words}
+use Rattle.model.specs.Bounded.{sum-below}
 use Rattle.model.specs.Columns.{Device}
 use Rattle.model.specs.Tasks.{step}
 use Rattle.model.specs.Book.{Book, Placed, placed, fits, intervals}
-use Rattle.model.specs.Choice.{home, Judge, judge, Found, nothing, at, climb, chosen}
+use Rattle.model.specs.Choice.{Judge, judge, Found, nothing, at, climb, chosen}
 use Rattle.model.specs.Calls.{choose, on-book}
-use Rattle.model.specs.Homes.{bit, Room}
+use Rattle.model.specs.Homes.{bit, home, adds, first-span, Room}
 use Rattle.choice.specs.declared.Seat.{Seat}
 use Rattle.choice.specs.declared.Score.{Score}
+use Rattle.choice.specs.declared.Tally.{Tally}
 use Rattle.choice.specs.declared.Best.{Best}
 use Rattle.choice.specs.declared.Best.the-variants.{Nothing, At}
 
--- the bounds of n and s: each block adds two pieces at most, and one interval
+-- the bounds of n and s: each block adds two pieces at most, and one interval at most
 abbrev pub max-pieces : ℕ
 max-pieces = 2 * max-blocks
 
@@ -43,21 +45,60 @@ pub record Seated (B : Placed) (L : ℕ → List Interval) (k : ℕ) (s : Seat) 
   pub above : s .top ≤ s .roof
   pub roof-small : s .roof ≤ 2 * max-rows
 
--- the block of `before` stands in the same interval
-abbrev pub same-home : Seat → Seat → Bool
-same-home before s = eqb (before .column) (s .column) && eqb (before .floor) (s .floor)
+-- what stands before block k: the block before it, and before block 0 something in no column of a device
+abbrev pub Before : Placed → (ℕ → List Interval) → ℕ → Seat → Type 0
+Before B L zero s = s .column ≡ max-columns
+Before B L (suc j) s = Seated B L j s
 
--- MODEL 11.3: the piece that is left below a block, if it is the first in its interval
-abbrev pub piece-below : Seat → Seat → ℕ
-piece-below before s = bit (not (same-home before s) && ltb (s .floor) (s .bottom))
+-- a block that ends at `top` of column c stands in the interval of the block before it
+abbrev pub same-home : Seat → ℕ → ℕ → Bool
+same-home before c top = eqb (before .column) c && leb top (before .roof)
+
+-- what `with_block` asks: the block ends inside its interval, which is within the limits of a device
+pub record Housed (s : Seat) : Type 0 where
+  pub low : s .floor ≤ s .roof
+  pub above : s .top ≤ s .roof
+  pub roof-small : s .roof ≤ 2 * max-rows
+
+-- MODEL 11.3: the piece that is left below a block, unless it is joined to the block before it in one interval
+abbrev pub piece-below : Bool → Seat → ℕ
+piece-below joined s = bit (not joined && ltb (s .floor) (s .bottom))
 
 -- and with the piece above it
-abbrev pub pieces-of : Seat → Seat → ℕ
-pieces-of before s = piece-below before s + bit (ltb (s .top) (s .roof))
+abbrev pub pieces-of : Bool → Seat → ℕ
+pieces-of joined s = piece-below joined s + bit (ltb (s .top) (s .roof))
+
+-- MODEL 11.2: the height of a block's interval, unless the block before it has counted it
+abbrev pub span-of : Bool → Seat → ℕ
+span-of joined s = cond joined 0 (s .roof - s .floor)
+
+-- ---- the blocks so far
+
+-- n and s are within their bounds
+abbrev pub Modest : Score → Type 0
+Modest x = (x .pieces ≤ max-pieces) × (x .stretch ≤ max-stretch)
+
+-- one block more: the score with it, and the block, which is then the last
+abbrev pub tally-with : Score → Bool → Seat → Tally
+tally-with x joined s = record {
+  last = s;
+  score = record { pieces = x .pieces + pieces-of joined s; stretch = x .stretch + span-of joined s; room = min (x .room) (s .roof - s .top) };
+}
+
+-- k blocks are scored: n and s so far, a room that each of them has above it in its interval, and the block before block k
+pub record Scoring (B : Placed) (L : ℕ → List Interval) (k : ℕ) (x : Tally) : Type 0 where
+  pub within : k ≤ B .count
+  pub pieces : x .score .pieces ≡ sum-below k (adds B L)
+  pub stretch : x .score .stretch ≡ sum-below k (first-span B L)
+  pub room : (j : ℕ) → j < k → B .top j + x .score .room ≤ home B L j .top
+  pub last : Before B L k (x .last)
+  pub pieces-few : x .score .pieces ≤ 2 * k
+  pub stretch-small : x .score .stretch ≤ 2 * max-rows * k
+  pub room-small : x .score .room < words
 
 -- ---- one position
 
--- MODEL 11.2 and 11.3: the n and s of column p, bottom y, and the least room above a block
+-- MODEL 11.2 and 11.3: the n and s of column p, bottom y, and a room that each block has above it in its interval
 pub record Scored (d : Device) (b : Book) (t : List ℕ) (p y : ℕ) (s : Score) : Type 0 where
   pub pieces : s .pieces ≡ judge d b t .n p y
   pub stretch : s .stretch ≡ judge d b t .s p y

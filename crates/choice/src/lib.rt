@@ -2,7 +2,7 @@
 // Only the lowest and the highest bottom of each stretch in which no block leaves its free interval are scored: between them s stays the same
 // and n is no less (model/specs/Laws/Ends.antt).
 ghost use mathlib.Core.Path.{_≡_};
-ghost use Prim.Native.Nat.{suc, _≤_, _<_};
+ghost use Prim.Native.Nat.{suc, _+_, _≤_, _<_};
 ghost use mathlib.Core.Bool.{true};
 ghost use lib.Dec.{ltb};
 ghost use Rattle.runs.specs.Intervals.{interval, Holds};
@@ -11,13 +11,13 @@ ghost use Rattle.model.specs.Limits.{max-columns, words};
 ghost use Rattle.model.specs.Columns.{half-rows};
 ghost use Rattle.model.specs.Tasks.{blocks, step as step-of};
 ghost use Rattle.model.specs.Book.{placed, fits, intervals};
-ghost use Rattle.model.specs.Choice.{holder, judge};
+ghost use Rattle.model.specs.Choice.{judge};
 ghost use Rattle.model.specs.Record.{device-of, book-of};
 ghost use Rattle.model.specs.Sound.{sound};
-ghost use Rattle.model.specs.Homes.{bit};
+ghost use Rattle.model.specs.Homes.{bit, holder};
 ghost use Rattle.listing.specs.Arrays.{Room};
 ghost use Rattle.listing.specs.Columns.{Given, ranges-in};
-ghost use Rattle.choice.specs.Choosing.{Seated, piece-below, pieces-of, max-pieces, max-stretch, Scored, Small, better-of, Rises, Climbed, FitsRange, RangesAre, Chooses};
+ghost use Rattle.choice.specs.Choosing.{same-home, Housed, piece-below, pieces-of, span-of, Modest, tally-with, Scoring, max-pieces, max-stretch, Scored, Small, better-of, Rises, Climbed, FitsRange, RangesAre, Chooses};
 use column::Held;
 use column::Interval;
 use runs::Range;
@@ -40,6 +40,12 @@ pub struct Score {
     pub pieces: u32,
     pub stretch: u32,
     pub room: u32,
+}
+
+// The score of the blocks so far, and the last of them.
+struct Tally {
+    last: Seat,
+    score: Score,
 }
 
 // The best position so far, with its n and s.
@@ -67,23 +73,11 @@ fn home(record: &[u8], c: usize, bottom: u32, top: u32) -> Interval
     i
 }
 
-// Block k of a task at column, bottom, and its home.
-fn seat_at(record: &[u8], task: &[u8], column: u32, bottom: u32, k: usize) -> Seat
-    requires { ⌜ Given (now «record») (now task) × (fits (device-of (now «record»)) (book-of (now «record»)) (now task) column bottom ≡ true) × (k < blocks (now task)) ⌝ }
-    ensures { λ r. ⌜ Seated (placed (now (task .entry)) column bottom) (intervals (device-of (now («record» .entry))) (book-of (now («record» .entry)))) k r ⌝ }
+// Does a block that ends at `top` of a column stand in the same interval as the block before it? That one is lower, or in another column.
+fn joins(before: Seat, column: u32, top: u32) -> bool
+    ensures { λ r. ⌜ r ≡ same-home before column top ⌝ }
 {
-    let b = task::block_at(task, k);
-    let c = column + b.column;
-    let low = bottom + b.low - model::REACH;
-    let high = bottom + b.high - model::REACH;
-    let i = home(record, c as usize, low, high);
-    Seat {
-        column: c,
-        bottom: low,
-        top: high,
-        floor: i.bottom,
-        roof: i.top,
-    }
+    before.column == column && top <= before.roof
 }
 
 // 1 where a is less than b.
@@ -97,23 +91,77 @@ fn less(a: u32, b: u32) -> u32
 }
 
 // 1 for the piece below a block, unless the block before it stands in the same interval.
-fn piece_below(before: Seat, seat: Seat) -> u32
-    ensures { λ r. ⌜ (r ≡ piece-below before seat) × (r ≤ 1) ⌝ }
+fn piece_below(joined: bool, seat: Seat) -> u32
+    ensures { λ r. ⌜ (r ≡ piece-below joined seat) × (r ≤ 1) ⌝ }
 {
-    if before.column != seat.column {
-        return less(seat.floor, seat.bottom);
+    if joined {
+        return 0;
     }
-    if before.floor != seat.floor {
-        return less(seat.floor, seat.bottom);
-    }
-    0
+    less(seat.floor, seat.bottom)
 }
 
 // The pieces that a block adds to n: the one below it and the one above it.
-fn pieces_of(before: Seat, seat: Seat) -> u32
-    ensures { λ r. ⌜ (r ≡ pieces-of before seat) × (r ≤ 2) ⌝ }
+fn pieces_of(joined: bool, seat: Seat) -> u32
+    ensures { λ r. ⌜ (r ≡ pieces-of joined seat) × (r ≤ 2) ⌝ }
 {
-    piece_below(before, seat) + less(seat.top, seat.roof)
+    piece_below(joined, seat) + less(seat.top, seat.roof)
+}
+
+// What a block adds to s: the height of its interval, unless the block before it stands there too.
+fn span_of(joined: bool, seat: Seat) -> u32
+    requires { ⌜ seat .floor ≤ seat .roof ⌝ }
+    ensures { λ r. ⌜ (r ≡ span-of joined seat) × (r ≤ seat .roof) ⌝ }
+{
+    if joined {
+        return 0;
+    }
+    seat.roof - seat.floor
+}
+
+// One block more: the score with it, and its seat, which is then the last.
+fn with_block(score: Score, joined: bool, seat: Seat) -> Tally
+    requires { ⌜ Modest score × Housed seat ⌝ }
+    ensures { λ r. ⌜ r ≡ tally-with score joined seat ⌝ }
+{
+    Tally {
+        last: seat,
+        score: Score {
+            pieces: score.pieces + pieces_of(joined, seat),
+            stretch: score.stretch + span_of(joined, seat),
+            room: lower(score.room, seat.roof - seat.top),
+        },
+    }
+}
+
+// Block k of a task at column, bottom is scored too, in the interval of the block before it or in the one that a search finds.
+fn add_block(record: &[u8], task: &[u8], column: u32, bottom: u32, k: usize, tally: Tally) -> Tally
+    requires { ⌜ Given (now «record») (now task) × (fits (device-of (now «record»)) (book-of (now «record»)) (now task) column bottom ≡ true) × (k < blocks (now task)) × Scoring (placed (now task) column bottom) (intervals (device-of (now «record»)) (book-of (now «record»))) k tally ⌝ }
+    ensures { λ r. ⌜ Scoring (placed (now (task .entry)) column bottom) (intervals (device-of (now («record» .entry))) (book-of (now («record» .entry)))) (k + 1) r ⌝ }
+{
+    let b = task::extent_at(task, k);
+    let c = column + b.column;
+    let low = bottom + b.low - model::REACH;
+    let high = bottom + b.high - model::REACH;
+    let last = tally.last;
+    if joins(last, c, high) {
+        let seat = Seat {
+            column: c,
+            bottom: low,
+            top: high,
+            floor: last.floor,
+            roof: last.roof,
+        };
+        return with_block(tally.score, true, seat);
+    }
+    let i = home(record, c as usize, low, high);
+    let seat = Seat {
+        column: c,
+        bottom: low,
+        top: high,
+        floor: i.bottom,
+        roof: i.top,
+    };
+    with_block(tally.score, false, seat)
 }
 
 // MODEL 11.2 and 11.3: the score of a position at which the task fits.
@@ -122,31 +170,27 @@ pub fn score_at(record: &[u8], task: &[u8], column: u32, bottom: u32) -> Score
     ensures { λ r. ⌜ Scored (device-of (now («record» .entry))) (book-of (now («record» .entry))) (now (task .entry)) column bottom r ⌝ }
 {
     let count = task.len() / model::BLOCK_SIZE;
-    let mut pieces: u32 = 0;
-    let mut stretch: u32 = 0;
-    let mut room: u32 = MOST_ROOM;
-    // No block stands in this column, so the first block is the first in its interval.
-    let mut before = Seat {
-        column: model::MAX_COLUMNS as u32,
-        bottom: 0,
-        top: 0,
-        floor: 0,
-        roof: 0,
+    let mut tally = Tally {
+        // No block stands in this column, so the first block is the first in its interval.
+        last: Seat {
+            column: model::MAX_COLUMNS as u32,
+            bottom: 0,
+            top: 0,
+            floor: 0,
+            roof: 0,
+        },
+        score: Score {
+            pieces: 0,
+            stretch: 0,
+            room: MOST_ROOM,
+        },
     };
     let mut k: usize = 0;
     while k < count {
-        let seat = seat_at(record, task, column, bottom, k);
-        pieces += pieces_of(before, seat);
-        stretch += seat.roof - seat.floor;
-        room = lower(room, seat.roof - seat.top);
-        before = seat;
+        tally = add_block(record, task, column, bottom, k, tally);
         k += 1;
     }
-    Score {
-        pieces,
-        stretch,
-        room,
-    }
+    tally.score
 }
 
 // MODEL 11.4 and 11.5: the better of the best so far and a position, and the best so far where they are equal.

@@ -161,7 +161,8 @@ pub fn holder(part: &[u8], count: usize, bottom: u32, top: u32) -> Held
     let mut i: usize = 0;
     while i < count {
         let next = read(part, i);
-        if next.bottom <= bottom && top <= next.top {
+        // The top first: of the intervals below the half rows it alone is looked at.
+        if top <= next.top && next.bottom <= bottom {
             return Held::In(next);
         }
         i += 1;

@@ -1,46 +1,47 @@
 -- MODEL 11: n and s of a position, and the choice. Assumes nothing.
 use Prim.Native.Nat.{ℕ, zero, suc, _*_, _-_}
 use mathlib.Core.Bool.{Bool, not, cond, _&&_}
-use mathlib.Core.List.{List, [], _∷_}
+use mathlib.Core.List.{List}
 use lib.Dec.{leb, ltb, eqb}
 use lib.ListN.{length}
-use Rattle.runs.specs.Intervals.{Interval, interval, intervals as maximal-runs}
+use Rattle.runs.specs.Intervals.{Interval, intervals as maximal-runs}
 use Rattle.model.specs.Bounded.{any-below, sum-below, sum-in}
 use Rattle.model.specs.Columns.{Device, columns, half-rows}
 use Rattle.model.specs.Book.{Book, Placed, placed, covered, fits, intervals}
 
--- ---- n, MODEL 11.3
+-- ---- the intervals that hold a block
 
 -- MODEL 11.1: block k lies in the interval i of column c
 unfoldable pub lies : Placed → ℕ → Interval → ℕ → Bool
 lies B c i k = eqb (B .column k) c && leb (i .bottom) (B .bottom k) && leb (B .top k) (i .top)
 
+-- MODEL 11.1: the interval i of column c holds a block of the task
+unfoldable pub holds-block : Placed → ℕ → Interval → Bool
+holds-block B c i = any-below (B .count) (lies B c i)
+
+-- ---- s, MODEL 11.2
+
+-- MODEL 11.2: the height of the interval i of column c, if it holds a block
+unfoldable pub span : Placed → ℕ → Interval → ℕ
+span B c i = cond (holds-block B c i) (i .top - i .bottom) 0
+
+-- MODEL 11.2: s, over the C columns, where L c are the intervals of column c before the task is placed
+unfoldable pub stretch : Placed → ℕ → (ℕ → List Interval) → ℕ
+stretch B C L = sum-below C (λ c. sum-in (span B c) (L c))
+
+-- ---- n, MODEL 11.3
+
 -- MODEL 11.3: what is left, as intervals, of the interval i of column c: the maximal runs of its half rows that no block covers
 unfoldable pub left-in : Placed → ℕ → Interval → List Interval
 left-in B c i = maximal-runs (λ z. leb (i .bottom) z && not (covered B c z)) (i .top)
 
--- MODEL 11.3: their number, if a block lies in the interval
+-- MODEL 11.3: their number, if the interval holds a block
 unfoldable pub remaining : Placed → ℕ → Interval → ℕ
-remaining B c i = let left = length (left-in B c i) in cond (any-below (B .count) (lies B c i)) left 0
+remaining B c i = let left = length (left-in B c i) in cond (holds-block B c i) left 0
 
--- MODEL 11.3: n, over the C columns, where L c are the intervals of column c before the task is placed
+-- MODEL 11.3: n, over the same columns and intervals
 unfoldable pub pieces : Placed → ℕ → (ℕ → List Interval) → ℕ
 pieces B C L = sum-below C (λ c. sum-in (remaining B c) (L c))
-
--- ---- s, MODEL 11.2
-
--- the interval of L in which half row z lies; an empty one where there is none
-unfoldable pub holder : List Interval → ℕ → Interval
-holder [] z = interval 0 0
-holder (i ∷ L) z = cond (leb (i .bottom) z && ltb z (i .top)) i (holder L z)
-
--- MODEL 11.1: the interval in which block k lies
-unfoldable pub home : Placed → (ℕ → List Interval) → ℕ → Interval
-home B L k = holder (L (B .column k)) (B .bottom k)
-
--- MODEL 11.2: s, block by block the height of its interval
-unfoldable pub stretch : Placed → (ℕ → List Interval) → ℕ
-stretch B L = sum-below (B .count) (λ k. home B L k .top - home B L k .bottom)
 
 -- ---- the choice
 
@@ -55,7 +56,7 @@ unfoldable pub judge : Device → Book → List ℕ → Judge
 judge d b t = record {
   fit = fits d b t;
   n = λ p y. pieces (placed t p y) (columns d) (intervals d b);
-  s = λ p y. stretch (placed t p y) (intervals d b);
+  s = λ p y. stretch (placed t p y) (columns d) (intervals d b);
 }
 
 -- a position, if there is one

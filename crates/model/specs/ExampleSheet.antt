@@ -7,7 +7,7 @@ use Rattle.model.specs.Columns.{height, cells-in, top-in, columns, kind,
 use Rattle.model.specs.Tasks.{word, lifted, blocks, block, sized, block-ok, follows, well-formed, step}
 use Rattle.model.specs.Book.{placed, covers, covered, held, free, block-fits, fits, fits-at, intervals}
 use Rattle.model.specs.Listing.{ranges}
-use Rattle.model.specs.Choice.{lies, left-in, remaining, pieces, holder, home, stretch, judge, better, see, climb, choice, chosen}
+use Rattle.model.specs.Choice.{lies, holds-block, span, stretch, left-in, remaining, pieces, judge, better, see, climb, choice, chosen}
 use Rattle.model.specs.Record.{bytes16}
 use Rattle.model.specs.Sound.{number-ok}
 use Rattle.model.specs.Calls.{lent, refused, no-position, runs-in, refusals, insert, without, natural, range-bytes, over, position-number, done, unless, on-book}
@@ -20,7 +20,7 @@ pub example-sheet : program (text "rows kinds\n5 CCB\ncall task column kind bott
 unfolding all-below any-below sum-below join-below all-in any-in sum-in join-in runs push maximal-runs
     height cells-in top-in columns kind cells top device-ok word lifted blocks block sized block-ok follows well-formed step
     placed covers covered held free block-fits fits fits-at intervals ranges
-    lies left-in remaining pieces holder home stretch judge better see climb choice chosen
+    lies holds-block span stretch left-in remaining pieces judge better see climb choice chosen
     bytes16 number-ok lent refused no-position runs-in refusals insert without natural range-bytes over position-number done unless on-book
     fields is digit decimal natural-of number natural-field height-field kind-letter kind-field call-of six sheet-line kind-letters kinds-field device-line
     digits shown output-line block-bytes on-call on-line on-lines same-line third second first lines program

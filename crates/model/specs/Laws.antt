@@ -29,6 +29,8 @@ pub mod ReadBack
 pub mod Sound
 -- the choice
 pub mod Homes
+pub mod Firsts
+pub mod Stretch
 pub mod Gaps
 pub mod Pieces
 pub mod Raised

@@ -1,5 +1,5 @@
--- MODEL 19: the small cards K1 to K17, one table with one theorem about it (MODEL 21.3), computed from the definitions. Assumes nothing.
-use Prim.Native.Nat.{ℕ}
+-- MODEL 19: the small cards K1 to K18, one table with one theorem about it (MODEL 21.3), computed from the definitions. Assumes nothing.
+use Prim.Native.Nat.{ℕ, _-_}
 use mathlib.Core.Path.{_≡_, refl}
 use mathlib.Core.List.{List, [], _∷_, _++_, map}
 use lib.IntN.{ℤ, pos, negsuc, negℤ}
@@ -9,11 +9,11 @@ use Rattle.runs.specs.Intervals.{intervals as maximal-runs}
 use Rattle.sets.specs.Graph.{touches, met, unmet, classes, set-count}
 use Rattle.model.specs.Limits.{list-room}
 use Rattle.model.specs.Bounded.{all-below, any-below, sum-below, join-below, those-below, all-in, any-in, sum-in, join-in}
-use Rattle.model.specs.Columns.{Device, height, cells-in, top-in, columns, kind, cells, top}
+use Rattle.model.specs.Columns.{Device, half-rows, height, cells-in, top-in, columns, kind, cells, top}
 use Rattle.model.specs.Tasks.{word, lifted, blocks, block, sized, block-ok, follows, well-formed, step}
-use Rattle.model.specs.Book.{placed, covers, covered, held, free, block-fits, fits, fits-at, intervals, holds-cell, cell-free}
+use Rattle.model.specs.Book.{Book, placed, covers, covered, held, free, block-fits, fits, fits-at, intervals, holds-cell, cell-free}
 use Rattle.model.specs.Listing.{ranges}
-use Rattle.model.specs.Choice.{lies, left-in, remaining, pieces, holder, home, stretch, judge, better, see, climb, choice, chosen}
+use Rattle.model.specs.Choice.{lies, holds-block, span, stretch, left-in, remaining, pieces, Judge, judge, Found, nothing, at, better, see, climb, choice, chosen}
 use Rattle.model.specs.Fragments.{neighbours, across, touch, free-cells, connected-sets, degree}
 use Rattle.model.specs.Record.{bytes16}
 use Rattle.model.specs.Sound.{number-ok}
@@ -21,7 +21,7 @@ use Rattle.model.specs.Calls.{Call, list, choose, place, release, lent, 
 use Rattle.model.specs.OnRecord.{measured}
 use Rattle.model.specs.History.{trace, book-of-history}
 use Rattle.model.specs.Program.{block-bytes}
-use Rattle.model.specs.Homes.{bit}
+use Rattle.model.specs.Homes.{bit, holder, home}
 
 -- ---- how the rows are written
 
@@ -48,9 +48,31 @@ answers d cs = book-of-history d cs .answers
 unfoldable left : Device → List Call → List ℕ
 left d cs = join-in (λ i. i .bottom ∷ i .top ∷ []) (intervals d (book-of-history d cs .final) 0)
 
--- n and s of task t at column p, bottom y of an empty device
-unfoldable score : Device → List ℕ → ℕ → ℕ → List ℕ
-score d t p y = pieces (placed t p y) (columns d) (intervals d []) ∷ stretch (placed t p y) (intervals d []) ∷ []
+-- n and s of task t at column p, bottom y after some calls
+unfoldable score : Device → List Call → List ℕ → ℕ → ℕ → List ℕ
+score d cs t p y =
+    let J = judge d (book-of-history d cs .final) t in
+    J .n p y ∷ J .s p y ∷ []
+
+-- the judge with an interval's height counted for each block in it, which is not how s is counted
+unfoldable each-block : Device → Book → List ℕ → Judge
+each-block d b t = record {
+  fit = fits d b t;
+  n = judge d b t .n;
+  s = λ p y. sum-below (blocks t) (λ k. home (placed t p y) (intervals d b) k .top - home (placed t p y) (intervals d b) k .bottom);
+}
+
+-- column and bottom of a position
+unfoldable spot : Found → List ℕ
+spot nothing = []
+spot (at p y) = p ∷ y ∷ []
+
+-- what that judge has for s at column 0, bottom y, and what it would choose, after some calls
+unfoldable s-by-each-block : Device → List Call → List ℕ → ℕ → ℕ
+s-by-each-block d cs t y = each-block d (book-of-history d cs .final) t .s 0 y
+
+unfoldable by-each-block : Device → List Call → List ℕ → List ℕ
+by-each-block d cs t = spot (choice (each-block d (book-of-history d cs .final) t) (half-rows d) (columns d))
 
 -- connected sets, free cells and degree after some calls
 unfoldable three : Device → List Call → List ℤ
@@ -58,7 +80,7 @@ three d cs =
     let m = measured d (book-of-history d cs .final) [] in
     m .answer ∷ m .free ∷ m .degree ∷ []
 
--- a row: which card, what the definitions give, and what MODEL 19.1 or 19.2 states
+-- a row: which card, what the definitions give, and what MODEL 19 states
 pub record Row : Type 0 where
   pub card : ℕ
   pub found : List ℤ
@@ -121,7 +143,7 @@ K4-task = B-block 0 0 5 ++ C-block 1 1 3
 K5-task : List ℕ
 K5-task = C-block 0 0 2 ++ B-block 1 0 5
 
--- 2–4 of column 0 is held, as on K5; 2–4 and 4–6 are, by two tasks, as on K7
+-- 2–4 of column 0 is held, as on K5 and K18; 2–4 and 4–6 are, by two tasks, as on K7
 held-2-4 : List Call
 held-2-4 = place C-2 1 0 (pos 2) ∷ []
 
@@ -174,14 +196,14 @@ held-0-2 = place C-2 1 0 (pos 0) ∷ []
 
 -- ---- the table
 
--- MODEL 19.1: K8 and K9 are tried on the cards of K7 and K2
+-- MODEL 19.1: K8 and K9 are tried on the cards of K7 and K2. MODEL 19.3: K18 is the card of K7 with the comb of K8
 pub table : List Row
 table =
     row 1 (numbers (cells K1 0 ∷ [])) (numbers (0 ∷ []))
     ∷ row 1 (answers K1 (list B-5 room ∷ choose B-5 ∷ [])) (negℤ (pos 9) ∷ negℤ (pos 9) ∷ [])
     ∷ row 2 (numbers (listed K2 [] B-5)) (numbers (0 ∷ 0 ∷ 5 ∷ 0 ∷ []))
     ∷ row 3 (numbers (listed K3 [] lines-4-6)) (numbers (0 ∷ 4 ∷ 10 ∷ 4 ∷ []))
-    ∷ row 3 (numbers (score K3 lines-4-6 0 4)) (numbers (5 ∷ 30 ∷ []))
+    ∷ row 3 (numbers (score K3 [] lines-4-6 0 4)) (numbers (5 ∷ 30 ∷ []))
     ∷ row 4 (numbers (listed K4 [] K4-task)) (numbers (0 ∷ 5 ∷ 10 ∷ 5 ∷ []))
     ∷ row 5 (numbers (listed K5 [] K5-task)) (numbers (0 ∷ 0 ∷ 10 ∷ 10 ∷ []))
     ∷ row 5 (answers K5 held-2-4) (pos 0 ∷ [])
@@ -206,19 +228,26 @@ table =
     ∷ row 16 (three K16 all-but-two) (numbers (2 ∷ 2 ∷ 10000 ∷ []))
     ∷ row 17 (three K6 []) (numbers (1 ∷ 1 ∷ 0 ∷ []))
     ∷ row 17 (three K6 held-0-2) (numbers (0 ∷ 0 ∷ 0 ∷ []))
+    ∷ row 18 (numbers (left K7 held-2-4)) (numbers (0 ∷ 2 ∷ 4 ∷ 10 ∷ []))
+    ∷ row 18 (numbers (listed K7 held-2-4 K8-apart)) (numbers (0 ∷ 0 ∷ 2 ∷ 0 ∷ 0 ∷ 4 ∷ 2 ∷ 4 ∷ []))
+    ∷ row 18 (numbers (score K7 held-2-4 K8-apart 0 0)) (numbers (1 ∷ 8 ∷ []))
+    ∷ row 18 (numbers (score K7 held-2-4 K8-apart 0 4)) (numbers (1 ∷ 6 ∷ []))
+    ∷ row 18 (answers K7 (held-2-4 ++ (choose K8-apart ∷ []))) (numbers (0 ∷ 0 ∷ []))
+    ∷ row 18 (numbers (map (s-by-each-block K7 held-2-4 K8-apart) (0 ∷ 4 ∷ []))) (numbers (8 ∷ 12 ∷ []))
+    ∷ row 18 (numbers (by-each-block K7 held-2-4 K8-apart)) (numbers (0 ∷ 4 ∷ []))
     ∷ []
 
--- THEOREM: the definitions give what MODEL 19.1 and 19.2 state, card by card
+-- THEOREM: the definitions give what MODEL 19 states, card by card
 pub small-cards : map (λ (r : Row). r .found) table ≡ map (λ (r : Row). r .stated) table
 unfolding K1 K2 K3 K4 K5 K6 K7 C-2 C-4 B-5 lines-4-6 line-8 K4-task K5-task held-2-4 held-2-6 K8-touching K8-apart K9-task with-task minus-5
-    K14 K15 K16 held-4-6 two-tasks held-0-4 all-but-two held-0-2 table listed answers left score three block-bytes
+    K14 K15 K16 held-4-6 two-tasks held-0-4 all-but-two held-0-2 table listed answers left score each-block spot s-by-each-block by-each-block three block-bytes
     all-below any-below sum-below join-below those-below all-in any-in sum-in join-in
     runs push maximal-runs
     height cells-in top-in columns kind cells top
     word lifted blocks block sized block-ok follows well-formed step
     placed covers covered held free block-fits fits fits-at intervals holds-cell cell-free
     touches met unmet classes set-count neighbours across touch free-cells connected-sets degree measured
-    ranges lies left-in remaining pieces holder home stretch judge better see climb choice chosen
+    ranges lies holds-block span stretch left-in remaining pieces holder home judge better see climb choice chosen
     bytes16 number-ok lent refused no-position runs-in refusals insert without natural range-bytes over position-number done unless on-book
     trace book-of-history
 small-cards = refl

@@ -8,6 +8,7 @@ use Rattle.model.specs.Limits.{max-kind, reach}
 use Rattle.model.specs.Kinds.{number-of}
 use Rattle.model.specs.Tasks as model
 use Rattle.task.specs.declared.Block.{Block}
+use Rattle.task.specs.declared.Extent.{Extent}
 use Rattle.task.specs.declared.BlockRead.{BlockRead}
 use Rattle.task.specs.declared.BlockRead.the-variants.{Of, Bad}
 
@@ -21,6 +22,12 @@ pub record Same (b : Block) (m : model.Block) : Type 0 where
   pub kind : number-of (b .kind) ≡ m .kind
   pub low : b .low ≡ m .low
   pub high : b .high ≡ m .high
+
+-- e is where the model's block m is
+pub record SameExtent (e : Extent) (m : model.Block) : Type 0 where
+  pub column : e .column ≡ m .column
+  pub low : e .low ≡ m .low
+  pub high : e .high ≡ m .high
 
 -- MODEL 4.8: what reading the model's block m answers, a block where its kind is one, and else none
 abbrev pub Reads : BlockRead → model.Block → Type 0

@@ -11,12 +11,19 @@ ghost use lib.Dec.{eqb};
 ghost use Rattle.model.specs.Limits.{block-size, max-kind, words};
 ghost use Rattle.model.specs.Columns.{height, kind-C};
 ghost use Rattle.model.specs.Tasks.{lifted, block, sized, block-ok, follows, well-formed, step};
-ghost use Rattle.task.specs.Blocks.{seen, Same, Reads, ReadsSolid, starts};
+ghost use Rattle.task.specs.Blocks.{seen, Same, SameExtent, Reads, ReadsSolid, starts};
 
 // MODEL 4.2 and 4.9: a block. Low and high are its bottom and top plus REACH, so that neither is negative.
 pub struct Block {
     pub column: u32,
     pub kind: Kind,
+    pub low: u32,
+    pub high: u32,
+}
+
+// MODEL 4.2 and 4.9: where a block is. Low and high are as in a block.
+pub struct Extent {
+    pub column: u32,
     pub low: u32,
     pub high: u32,
 }
@@ -45,6 +52,19 @@ fn lift(v: u32) -> u32
     (v + model::REACH) % model::WORDS
 }
 
+// MODEL 4.2: where block i of a task is. The kind is not looked at.
+pub fn extent_at(task: &[u8], i: usize) -> Extent
+    requires { ⌜ block-size * i + block-size ≤ length (now task) ⌝ }
+    ensures { λ r. ⌜ SameExtent r (block (now (task .entry)) i) ⌝ }
+{
+    let at = model::BLOCK_SIZE * i;
+    Extent {
+        column: wide(task[at]),
+        low: lift(get16(task, at + model::BLOCK_BOTTOM_AT)),
+        high: lift(get16(task, at + model::BLOCK_TOP_AT)),
+    }
+}
+
 // MODEL 4.2: block i of a task.
 pub fn read_block(task: &[u8], i: usize) -> BlockRead
     requires { ⌜ block-size * i + block-size ≤ length (now task) ⌝ }
@@ -54,11 +74,12 @@ pub fn read_block(task: &[u8], i: usize) -> BlockRead
     let KindRead::Known(kind) = Kind::of_byte(task[at + model::BLOCK_KIND_AT]) else {
         return BlockRead::Bad;
     };
+    let extent = extent_at(task, i);
     BlockRead::Of(Block {
-        column: wide(task[at]),
+        column: extent.column,
         kind: kind,
-        low: lift(get16(task, at + model::BLOCK_BOTTOM_AT)),
-        high: lift(get16(task, at + model::BLOCK_TOP_AT)),
+        low: extent.low,
+        high: extent.high,
     })
 }
 

@@ -26,7 +26,7 @@ read-requires c κs = search needs
 returns : tie.Need-returns Inv-loop μ-loop
 returns c =
     let l = c .before .before .before .before .before .before .loop in
-    held (c .before .before .before .before .before .loop-test .taken) (c .before .before .before .before .read .ensures) _ _ (l .inv .1) (c .before .before .if1 .taken) (omega tests)
+    held (c .before .before .before .before .before .loop-test .taken) (c .before .before .before .before .read .ensures) _ _ (l .inv .1) (omega tests) (c .before .before .if1 .taken)
 
 add-i : tie.Need-add-i Inv-loop μ-loop
 add-i c = search needs

@@ -10,7 +10,7 @@ use borrow.Author.Tests.{lt-ltb, le-ltb, le-leb, lt-leb}
 use Rattle.runs.specs.Intervals.{Interval, interval, Apart, Holds}
 use Rattle.runs.specs.Laws.Tests.{tests, cond-ind}
 use Rattle.runs.specs.Laws.Intervals.{named-ge, holds-of}
-use Rattle.model.specs.Choice.{holder}
+use Rattle.model.specs.Homes.{holder}
 use Rattle.model.specs.Bounded.{In as Among}
 use Rattle.model.specs.Laws.Bounded.{and-to, and-of, clash, is-false}
 use Rattle.column.specs.declared.Interval.{Interval as Read}

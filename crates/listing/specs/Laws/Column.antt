@@ -32,7 +32,7 @@ use Rattle.model.specs.Laws.Clauses.{clauses-to}
 use Rattle.model.specs.Laws.ReadBack.{getD-in}
 use Rattle.model.specs.Laws.Sound.{columns-said, listed-said, sound-length, sound-within}
 use Rattle.task.specs.Blocks.{seen, Same}
-use Rattle.task.specs.Laws.Blocks.{same-seen, block-within}
+use Rattle.task.specs.Laws.Blocks.{same-seen, block-ready as ready}
 use Rattle.task.specs.declared.Block.{Block}
 use Rattle.listing.specs.Bottoms.{lift, lowered, Standing}
 use Rattle.listing.specs.Arrays.{max-runs, read, Room, Lowerable, bottom-at, top-at, Meetable, Met}
@@ -82,7 +82,7 @@ module _ (r t : List ℕ) (g : Given r t) where
   few-blocks = sized-to t (g .sized) .few
 
   pub block-ready : (k : ℕ) → k < blocks t → (block-size * k + block-size ≤ length t) × (block t k .kind ≤ max-kind)
-  block-ready k l = (block-within t k l, solid-block t (g .formed) k l .kind)
+  block-ready k l = ready t k (g .formed) l
 
   pub first-ready : (block-size * 0 + block-size ≤ length t) × (block t 0 .kind ≤ max-kind)
   first-ready = block-ready 0 some-blocks

@@ -11,10 +11,10 @@ use borrow.Author.Tests.{le-leb, lt-leb, not-true}
 use Rattle.runs.specs.Intervals.{Interval, Named, Apart}
 use Rattle.runs.specs.Laws.Tests.{tests}
 use Rattle.runs.specs.Laws.Intervals.{apart-weaken, apart-unique, intervals-free}
-use Rattle.model.specs.Bounded.{any-below, sum-below, any-in, sum-in, join-in, In}
+use Rattle.model.specs.Bounded.{sum-below, any-in, sum-in, join-in, In}
 use Rattle.model.specs.Columns.{Device, columns}
 use Rattle.model.specs.Book.{Running, Book, Placed, covered, standing, intervals}
-use Rattle.model.specs.Choice.{lies, left-in, remaining, pieces, judge}
+use Rattle.model.specs.Choice.{holds-block, left-in, remaining, pieces, judge}
 use Rattle.model.specs.Calls.{insert}
 use Rattle.model.specs.Homes.{bit}
 use Rattle.model.specs.Laws.Bounded.{and-to, sum-ext, list-ext}
@@ -29,7 +29,7 @@ count-in p K = sum-in (λ k. bit (p k)) K
 
 -- the interval k lies inside an interval of L that held a block
 unfoldable pub inside-held : Placed → ℕ → List Interval → Interval → Bool
-inside-held B c L k = any-in (λ i. leb (i .bottom) (k .bottom) && leb (k .top) (i .top) && any-below (B .count) (lies B c i)) L
+inside-held B c L k = any-in (λ i. leb (i .bottom) (k .bottom) && leb (k .top) (i .top) && holds-block B c i) L
 
 -- ---- lists of intervals
 
@@ -137,13 +137,13 @@ module _ (B : Placed) (c : ℕ) where
   inside-none k m (i ∷ K) d l = rw (lt-leb (i .bottom) (k .bottom) (omega arith)) (inside-none k (suc (i .top)) K (d .2) (omega arith))
 
   -- one that is left inside i is inside i alone
-  left-here : (m : ℕ) (i : Interval) (K : List Interval) → Apart m (i ∷ K) → (k : Interval) → In k (left-in B c i) → inside-held B c (i ∷ K) k ≡ any-below (B .count) (lies B c i)
+  left-here : (m : ℕ) (i : Interval) (K : List Interval) → Apart m (i ∷ K) → (k : Interval) → In k (left-in B c i) → inside-held B c (i ∷ K) k ≡ holds-block B c i
   unfolding inside-held any-in
   left-here m i K d k n =
       let b = in-bounds (i .bottom) k (left-in B c i) (left-apart i) n in
       let t = in-inside (i .top) k (left-in B c i) (left-inside i) n in
       rw (le-leb (i .bottom) (k .bottom) (b .0), le-leb (k .top) (i .top) t)
-      (or-false (any-below (B .count) (lies B c i)) (inside-held B c K k) (inside-none k (suc (i .top)) K (d .2) (omega arith)))
+      (or-false (holds-block B c i) (inside-held B c K k) (inside-none k (suc (i .top)) K (d .2) (omega arith)))
 
   -- one that is left inside a later interval is not inside i
   left-later : (m : ℕ) (i : Interval) (K : List Interval) → Apart m (i ∷ K) → (k : Interval) → In k (flat K) → inside-held B c (i ∷ K) k ≡ inside-held B c K k
@@ -158,7 +158,7 @@ module _ (B : Placed) (c : ℕ) where
   flat-count m (i ∷ K) d =
       append-sum (λ k. bit (inside-held B c (i ∷ K) k)) (left-in B c i) (flat K)
       ∙ ap₂ (λ (x y : ℕ). x + y)
-      (count-same (inside-held B c (i ∷ K)) (any-below (B .count) (lies B c i)) (left-in B c i) (left-here m i K d))
+      (count-same (inside-held B c (i ∷ K)) (holds-block B c i) (left-in B c i) (left-here m i K d))
       (list-ext (λ k. bit (inside-held B c (i ∷ K) k)) (λ k. bit (inside-held B c K k)) (flat K) (λ k n. ap bit (left-later m i K d k n)) ∙ flat-count (suc (i .top)) K (d .2))
 
 -- THEOREM: L c are the free intervals of column c before placing, and M c those after, which name what no block covers. Then n is the number of

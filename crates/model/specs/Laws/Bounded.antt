@@ -2,7 +2,7 @@
 use Prim.Native.Nat.{ℕ, zero, suc, _+_, _≤_, _<_}
 use mathlib.Core.Path.{_≡_, refl, sym, ap, _∙_}
 use mathlib.Core.Logic.{_⊎_, inl, inr}
-use mathlib.Core.Bool.{Bool, true, false, _&&_, _||_, true≢false, false≢true}
+use mathlib.Core.Bool.{Bool, true, false, _&&_, true≢false, false≢true}
 use mathlib.Core.List.{List, [], _∷_, _++_, map}
 use native.Mathlib.Omega.{arith}
 use Rattle.runs.specs.Laws.Tests.{lt-or-ge}
@@ -85,6 +85,19 @@ any-of-one (suc n) p k l e = or-of (any-below n p) (p n) (go (lt-or-ge k n) (λ 
     go (inl h) rest = inl (rest h)
     go (inr h) rest = let k-n : k ≡ n = omega arith in inr (ap p (sym k-n) ∙ e)
 
+-- some number below n is the first of which p holds
+abbrev pub First : ℕ → (ℕ → Bool) → Type 0
+First n p = (k : ℕ) × (k < n) × (p k ≡ true) × ((j : ℕ) → j < k → p j ≡ false)
+
+pub first-to : (n : ℕ) (p : ℕ → Bool) → any-below n p ≡ true → First n p
+unfolding any-below
+first-to zero p e = absurd (false≢true e)
+first-to (suc n) p e = go (true-or-false (any-below n p)) (first-to n p)
+  where
+    go : (any-below n p ≡ true) ⊎ (any-below n p ≡ false) → (any-below n p ≡ true → First n p) → First (suc n) p
+    go (inl h) rest = let (k, l, q, before) = rest h in (k, omega arith, q, before)
+    go (inr h) rest = (n, omega arith, (rw h at e), λ j l. is-false (p j) (λ q. clash (any-of-one n p j l q) h))
+
 pub any-none : (n : ℕ) (p : ℕ → Bool) → ((k : ℕ) → k < n → p k ≡ false) → any-below n p ≡ false
 unfolding any-below
 any-none zero p h = refl
@@ -101,6 +114,12 @@ pub sum-mono : (n : ℕ) (f g : ℕ → ℕ) → ((k : ℕ) → k < n → f k �
 unfolding sum-below
 sum-mono zero f g h = omega arith
 sum-mono (suc n) f g h = omega (arith, sum-mono n f g (λ k l. h k (omega arith)), h n (omega arith))
+
+-- no term is more than the sum
+pub sum-ge : (n k : ℕ) (f : ℕ → ℕ) → k < n → f k ≤ sum-below n f
+unfolding sum-below
+sum-ge zero k f l = absurd (omega arith)
+sum-ge (suc n) k f l = last-or (λ j. f j ≤ sum-below n f + f n) n k l (λ h. omega (arith, sum-ge n k f h)) (omega arith)
 
 pub sum-add : (n : ℕ) (f g : ℕ → ℕ) → sum-below n (λ k. f k + g k) ≡ sum-below n f + sum-below n g
 unfolding sum-below

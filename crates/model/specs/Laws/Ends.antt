@@ -1,6 +1,6 @@
--- MODEL 11: a well-formed task where it fits. Its blocks stand in free intervals, so n comes block by block; while it rises inside these intervals s
+-- MODEL 11: a well-formed task where it fits. Its blocks stand in free intervals, so n and s come block by block; while it rises inside these intervals s
 -- stays, and n is no less until a block meets an end. So the choice need only look at the ends. Assumes nothing.
-use Prim.Native.Nat.{ℕ, zero, suc, _+_, _-_, _*_, _%_, _≤_, _<_}
+use Prim.Native.Nat.{ℕ, suc, _+_, _-_, _*_, _%_, _≤_, _<_}
 use mathlib.Core.Path.{_≡_, refl, ap, _∙_}
 use mathlib.Core.Logic.{_⊎_, inl, inr}
 use mathlib.Core.Bool.{true, false}
@@ -16,12 +16,14 @@ use Rattle.model.specs.Bounded.{sum-below}
 use Rattle.model.specs.Columns.{Device, half-rows, height, columns, kind, top}
 use Rattle.model.specs.Tasks.{Block, blocks, block, well-formed, step}
 use Rattle.model.specs.Book.{Book, placed, free, fits, intervals}
-use Rattle.model.specs.Choice.{stretch, judge, Found, nothing, at, see, climb, chosen}
-use Rattle.model.specs.Homes.{Room}
+use Rattle.model.specs.Choice.{judge, Found, nothing, at, see, climb, chosen}
+use Rattle.model.specs.Homes.{Room, joined, adds, first-span}
+use Rattle.model.specs.Laws.Bounded.{sum-ge}
 use Rattle.model.specs.Laws.Tasks.{Before, full-block, in-order}
 use Rattle.model.specs.Laws.Fits.{Fitting, fits-to, fits-of}
 use Rattle.model.specs.Laws.Steps.{common-step, step-bounds, fits-steps}
-use Rattle.model.specs.Laws.Homes.{Under, Stands, adds, at-home}
+use Rattle.model.specs.Laws.Homes.{Under, Stands, at-home}
+use Rattle.model.specs.Laws.Stretch.{stretch-firsts}
 use Rattle.model.specs.Laws.Pieces.{pieces-adds}
 use Rattle.model.specs.Laws.Raised.{Raised, raised-stands, stretch-same, pieces-more}
 use Rattle.model.specs.Laws.Climb.{climb-jump}
@@ -83,6 +85,11 @@ module _ (d : Device) (b : Book) (t : List ℕ) (w : well-formed t ≡ true) (p 
   pub n-adds : judge d b t .n p y ≡ sum-below (blocks t) (adds (placed t p y) (intervals d b))
   unfolding judge placed
   n-adds = pieces-adds (placed t p y) (columns d) (intervals d b) stands
+
+  -- THEOREM: s of a fitting position is the sum, over the blocks, of the height of the block's interval, if it is the first in it
+  pub s-firsts : judge d b t .s p y ≡ sum-below (blocks t) (first-span (placed t p y) (intervals d b))
+  unfolding judge placed
+  s-firsts = stretch-firsts (placed t p y) (columns d) (intervals d b) stands
 
   -- the task u half rows higher
   pub raised : (u : ℕ) → Raised u (placed t p y) (placed t p (y + u))
@@ -147,18 +154,14 @@ module _ (d : Device) (b : Book) (t : List ℕ) (w : well-formed t ≡ true) (p 
 
 -- ---- the choice
 
-sum-pos : (n : ℕ) (g : ℕ → ℕ) → 1 ≤ n → ((k : ℕ) → k < n → 0 < g k) → 0 < sum-below n g
-unfolding sum-below
-sum-pos zero g l h = absurd (omega arith)
-sum-pos (suc n) g l h = omega (arith, h n (omega arith))
-
 module _ (d : Device) (b : Book) (t : List ℕ) (w : well-formed t ≡ true) (n : 1 ≤ blocks t) where
   -- where a task fits, s is not 0
   pub s-pos : (p y : ℕ) → fits d b t p y ≡ true → 0 < judge d b t .s p y
-  unfolding judge stretch placed
+  unfolding placed first-span joined
   s-pos p y f =
       let s = stands d b t w p y f in
-      sum-pos (blocks t) _ n (λ k l. let h = at-home (placed t p y) (columns d) (intervals d b) s k l in omega (arith, s .full k l, h .below, h .above))
+      let h = at-home (placed t p y) (columns d) (intervals d b) s 0 n in
+      omega (arith, s-firsts d b t w p y f, sum-ge (blocks t) 0 (first-span (placed t p y) (intervals d b)) n, s .full 0 n, h .below, h .above)
 
   -- THEOREM: the position that is chosen fits, has the least n / s, and is the first of those by column and then by bottom (MODEL 11.5)
   pub chosen-at : (q z : ℕ) → chosen d b t ≡ at q z → Chosen (judge d b t) (half-rows d) (columns d) q z

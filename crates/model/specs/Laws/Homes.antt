@@ -1,18 +1,17 @@
--- MODEL 11.1: blocks that stand in free intervals, the interval in which each lies, its home, and what each adds to n. Assumes nothing.
-use Prim.Native.Nat.{ℕ, zero, suc, _+_, _≤_, _<_}
+-- MODEL 11.1: blocks that stand in free intervals, the interval in which each lies, its home, and what each adds to n and to s. Assumes nothing.
+use Prim.Native.Nat.{ℕ, suc, _+_, _-_, _≤_, _<_}
 use mathlib.Core.Path.{_≡_, refl, sym, _∙_}
 use mathlib.Core.Logic.{_⊎_, inl, inr}
 use mathlib.Core.Bool.{Bool, true, false, not, cond, _&&_}
 use mathlib.Core.List.{List, [], _∷_}
 use native.Mathlib.Omega.{arith}
-use lib.Dec.{leb, ltb, eqb}
+use lib.Dec.{leb, ltb}
 use borrow.Author.Tests.{le-leb, lt-leb, lt-ltb, le-ltb}
 use Rattle.runs.specs.Intervals.{Interval, Named, Apart, Holds}
 use Rattle.runs.specs.Laws.Intervals.{named-ge, holds-of}
 use Rattle.model.specs.Bounded.{sum-in, In}
 use Rattle.model.specs.Book.{Placed}
-use Rattle.model.specs.Choice.{holder, home}
-use Rattle.model.specs.Homes.{bit}
+use Rattle.model.specs.Homes.{bit, holder, home, joined, adds, first-span}
 use Rattle.model.specs.Laws.Bounded.{list-zero}
 
 -- block j stands in an earlier column than block k, or below it in the same column without touching
@@ -26,15 +25,6 @@ pub record Stands (B : Placed) (C : ℕ) (L : ℕ → List Interval) : Type 0 wh
   pub canon : (c : ℕ) → Apart 0 (L c)
   pub held : (k : ℕ) → k < B .count → Holds (B .bottom k) (B .top k) (L (B .column k))
   pub column : (k : ℕ) → k < B .count → B .column k < C
-
--- block k lies in the same interval as the block before it
-unfoldable pub joined : Placed → (ℕ → List Interval) → ℕ → Bool
-joined B L zero = false
-joined B L (suc j) = eqb (B .column j) (B .column (suc j)) && eqb (home B L j .bottom) (home B L (suc j) .bottom)
-
--- what block k adds to n: the piece below it, if it is the first in its interval, and the piece above it
-unfoldable pub adds : Placed → (ℕ → List Interval) → ℕ → ℕ
-adds B L k = bit (not (joined B L k) && ltb (home B L k .bottom) (B .bottom k)) + bit (ltb (B .top k) (home B L k .top))
 
 -- ---- what a block adds
 
@@ -51,6 +41,11 @@ pub adds-is : (B : Placed) (L : ℕ → List Interval) (k : ℕ) (i : Interval) 
     → adds B L k ≡ bit (not same && ltb (i .bottom) (B .bottom k)) + bit (ltb (B .top k) (i .top))
 unfolding adds
 adds-is B L k i same e f = rw (e, f)
+
+pub first-span-is : (B : Placed) (L : ℕ → List Interval) (k : ℕ) (i : Interval) (same : Bool) → home B L k ≡ i → joined B L k ≡ same
+    → first-span B L k ≡ cond same 0 (i .top - i .bottom)
+unfolding first-span
+first-span-is B L k i same e f = rw (e, f)
 
 -- ---- the interval of a canonical list that holds a number
 

@@ -7,28 +7,21 @@ use mathlib.Core.List.{List, [], _∷_}
 use native.Mathlib.Omega.{arith}
 use lib.ListN.{length}
 use lib.Dec.{leb, ltb, eqb}
-use borrow.Author.Tests.{le-leb, lt-ltb, eq-eqb, ne-eqb, not-true}
+use borrow.Author.Tests.{le-leb, lt-ltb, eq-eqb, not-true}
 use Rattle.runs.specs.Intervals.{Interval, interval, Named, Apart, Holds}
 use Rattle.runs.specs.Laws.Tests.{tests, cond-ind, lt-or-ge}
-use Rattle.model.specs.Bounded.{any-below, sum-below, sum-in, In}
+use Rattle.model.specs.Bounded.{sum-below, In}
 use Rattle.model.specs.Book.{Placed, covers, covered}
-use Rattle.model.specs.Choice.{lies, left-in, remaining, pieces, home}
-use Rattle.model.specs.Homes.{bit}
-use Rattle.model.specs.Laws.Bounded.{Some, and-to, and3-to, clash, is-false, last-or, any-to, any-of-one, any-none, sum-ext, sum-single, sum-swap, sum-from, sum-front, list-ext, list-swap, list-zero}
+use Rattle.model.specs.Choice.{lies, holds-block, left-in, remaining, pieces}
+use Rattle.model.specs.Homes.{bit, adds}
+use Rattle.model.specs.Laws.Bounded.{Some, and-to, and3-to, clash, is-false, last-or, any-to, any-of-one, any-none, sum-from, sum-front}
 use Rattle.model.specs.Laws.Gaps.{Inside, gaps, tops, gaps-intervals, gaps-length}
-use Rattle.model.specs.Laws.Homes.{Under, Stands, joined, adds, adds-is, holder-at, own, one-counts, at-home}
+use Rattle.model.specs.Laws.Homes.{Stands, adds-is, own}
+use Rattle.model.specs.Laws.Firsts.{lies-to, lies-of, over, home-is, later, first, term, by-blocks}
 
 -- ---- the tests as facts about numbers
 
 module _ (B : Placed) (c k : ℕ) where
-  lies-to : (i : Interval) → lies B c i k ≡ true → (B .column k ≡ c) × (i .bottom ≤ B .bottom k) × (B .top k ≤ i .top)
-  unfolding lies
-  lies-to i e = let (x, y, z) = and3-to (eqb (B .column k) c) (leb (i .bottom) (B .bottom k)) _ e in (omega tests, omega tests, omega tests)
-
-  lies-of : (i : Interval) → B .column k ≡ c → i .bottom ≤ B .bottom k → B .top k ≤ i .top → lies B c i k ≡ true
-  unfolding lies
-  lies-of i u v w = rw (eq-eqb (B .column k) c u, le-leb (i .bottom) (B .bottom k) v, le-leb (B .top k) (i .top) w)
-
   covers-to : (z : ℕ) → covers B c z k ≡ true → (B .column k ≡ c) × (B .bottom k ≤ z) × (z < B .top k)
   unfolding covers
   covers-to z e = let (x, y, w) = and3-to (eqb (B .column k) c) (leb (B .bottom k) z) _ e in (omega tests, omega tests, omega tests)
@@ -46,10 +39,6 @@ sel B c i j (suc n) = cond (lies B c i j) (interval (B .bottom j) (B .top j) ∷
 abbrev mine : Placed → ℕ → Interval → List Interval
 mine B c i = sel B c i 0 (B .count)
 
--- what block k adds to the interval i of column c
-term : Placed → (ℕ → List Interval) → ℕ → Interval → ℕ → ℕ
-term B L c i k = cond (lies B c i k) (adds B L k) 0
-
 -- 1 if the lowest of the blocks leaves a piece of i below it
 abbrev lowest : Interval → List Interval → ℕ
 lowest i [] = 0
@@ -58,28 +47,6 @@ lowest i (b ∷ K) = bit (ltb (i .bottom) (b .bottom))
 -- ---- one interval
 
 module _ (B : Placed) (C : ℕ) (L : ℕ → List Interval) (s : Stands B C L) (c : ℕ) (i : Interval) (m : In i (L c)) where
-  -- of two blocks in column c the later lies above; a block between the two is in column c too
-  over : (j k : ℕ) → j < k → k < B .count → B .column j ≡ c → B .column k ≡ c → B .top j < B .bottom k
-  over j k l g p q = go (s .rise j k l g)
-    where
-      go : Under B j k → B .top j < B .bottom k
-      go (inl h) = absurd (omega arith)
-      go (inr h) = h .1
-
-  no-fall : (j k : ℕ) → j < k → k < B .count → B .column j ≤ B .column k
-  no-fall j k l g = go (s .rise j k l g)
-    where
-      go : Under B j k → B .column j ≤ B .column k
-      go (inl h) = omega arith
-      go (inr h) = omega arith
-
-  home-is : (k : ℕ) → k < B .count → lies B c i k ≡ true → home B L k ≡ i
-  unfolding home
-  home-is k l e =
-      let (u, v, w) = lies-to B c k i e in
-      let f = s .full k l in
-      rw u (holder-at 0 (B .bottom k) i (L c) (s .canon c) m v (omega arith))
-
   -- a block that covers a number of the interval lies in it
   whole : (z k : ℕ) → k < B .count → covers B c z k ≡ true → i .bottom ≤ z → z < i .top → lies B c i k ≡ true
   whole z k l e p q =
@@ -98,7 +65,7 @@ module _ (B : Placed) (C : ℕ) (L : ℕ → List Interval) (s : Stands B C L) (
       (λ p. (
         h j (omega arith) (omega arith) p,
         s .full j (omega arith),
-        sel-apart n (suc j) (suc (B .top j)) (omega arith) (λ k l g q. over j k l g (lies-to B c j i p .0) (lies-to B c k i q .0)),
+        sel-apart n (suc j) (suc (B .top j)) (omega arith) (λ k l g q. over B C L s j k l g (omega (arith, lies-to B c j i p, lies-to B c k i q))),
       ))
       (λ p. sel-apart n (suc j) lo (omega arith) (λ k l g q. h k (omega arith) g q))
 
@@ -162,7 +129,8 @@ module _ (B : Placed) (C : ℕ) (L : ℕ → List Interval) (s : Stands B C L) (
       let f = s .full k l in
       rw e at (sel-of (B .bottom k) k (B .count) 0 (omega arith) (omega arith) q (omega arith) f))
 
-  mine-some : (b : Interval) (K : List Interval) → mine B c i ≡ b ∷ K → any-below (B .count) (lies B c i) ≡ true
+  mine-some : (b : Interval) (K : List Interval) → mine B c i ≡ b ∷ K → holds-block B c i ≡ true
+  unfolding holds-block
   mine-some b K e =
       let a : Apart (i .bottom) (b ∷ K) = rw e at mine-apart in
       let n : Inside (i .top) (b ∷ K) = rw e at (sel-inside (B .count) 0) in
@@ -170,109 +138,50 @@ module _ (B : Placed) (C : ℕ) (L : ℕ → List Interval) (s : Stands B C L) (
       any-of-one (B .count) (lies B c i) k (omega arith) (whole (b .bottom) k (omega arith) w (omega arith) (omega arith))
 
   mine-count : (K : List Interval) → mine B c i ≡ K
-      → cond (any-below (B .count) (lies B c i)) (length (gaps (i .bottom) (i .top) (mine B c i))) 0 ≡ lowest i (mine B c i) + tops (i .top) (mine B c i)
-  unfolding tops
+      → cond (holds-block B c i) (length (gaps (i .bottom) (i .top) (mine B c i))) 0 ≡ lowest i (mine B c i) + tops (i .top) (mine B c i)
+  unfolding tops holds-block
   mine-count [] e = rw (any-none (B .count) (lies B c i) (mine-none e), e) (omega arith)
   mine-count (b ∷ K) e = rw (mine-some b K e, e) (gaps-length (i .bottom) (i .top) b K (rw e at mine-apart) (rw e at (sel-inside (B .count) 0)))
 
   -- ---- what its blocks add
 
-  -- of two neighbours, one of them in the interval: they are joined just where the other is in it too
-  joined-to : (j : ℕ) → suc j < B .count → lies B c i (suc j) ≡ true → joined B L (suc j) ≡ true → lies B c i j ≡ true
-  unfolding joined
-  joined-to j l p e =
-      let (x, y) = and-to (eqb (B .column j) (B .column (suc j))) _ e in
-      let h = ap (λ (w : Interval). w .bottom) (home-is (suc j) l p) in
-      let a = at-home B C L s j (omega arith) in
-      let q = lies-to B c (suc j) i p in
-      let f = s .full (suc j) l in
-      let col : B .column j ≡ c = omega tests in
-      lies-of B c j i col (omega tests) (omega (arith, over j (suc j) (omega arith) l col (q .0)))
-
-  joined-of : (j : ℕ) → suc j < B .count → lies B c i j ≡ true → lies B c i (suc j) ≡ true → joined B L (suc j) ≡ true
-  unfolding joined
-  joined-of j l p q =
-      let u = lies-to B c j i p in
-      let v = lies-to B c (suc j) i q in
-      rw (eq-eqb (B .column j) (B .column (suc j)) (omega arith), home-is j (omega arith) p, home-is (suc j) l q) (eq-eqb (i .bottom) (i .bottom) refl)
-
-  -- a block between two of the interval lies in it
-  between : (j k : ℕ) → j < k → suc k < B .count → lies B c i j ≡ true → lies B c i (suc k) ≡ true → lies B c i k ≡ true
-  between j k l g p q =
-      let u = lies-to B c j i p in
-      let v = lies-to B c (suc k) i q in
-      let col : B .column k ≡ c = omega (arith, no-fall j k l (omega arith), no-fall k (suc k) (omega arith) g) in
-      let x = over j k l (omega arith) (u .0) col in
-      let y = over k (suc k) (omega arith) g col (v .0) in
-      lies-of B c k i col (omega (arith, s .full j (omega arith))) (omega (arith, s .full (suc k) g))
-
-  -- so one that comes after another of the interval is joined, and the first one is not
-  later : (j k : ℕ) → j < k → k < B .count → lies B c i j ≡ true → lies B c i k ≡ true → joined B L k ≡ true
-  later j zero l g p q = absurd (omega arith)
-  later j (suc k) l g p q = go (lt-or-ge j k)
-    where
-      go : (j < k) ⊎ (k ≤ j) → joined B L (suc k) ≡ true
-      go (inl h) = joined-of k g (between j k h g p q) q
-      go (inr h) = let e : j ≡ k = omega arith in joined-of k g (rw e at p) q
-
-  first : (j : ℕ) → j < B .count → ((k : ℕ) → k < j → lies B c i k ≡ false) → lies B c i j ≡ true → joined B L j ≡ false
-  unfolding joined
-  first zero l h p = refl
-  first (suc j) l h p = is-false (joined B L (suc j)) (λ e. clash (joined-to j l p e) (h j (omega arith)))
-
   -- the terms from block j on, once a block of the interval is passed
-  seen : (n j k : ℕ) → k < j → lies B c i k ≡ true → j + n ≡ B .count → sum-from j n (term B L c i) ≡ tops (i .top) (sel B c i j n)
+  seen : (n j k : ℕ) → k < j → lies B c i k ≡ true → j + n ≡ B .count → sum-from j n (term B (adds B L) c i) ≡ tops (i .top) (sel B c i j n)
   unfolding sel tops sum-from term
   seen zero j k l p e = refl
   seen (suc n) j k l p e = go (lies B c i j) refl (seen n (suc j) k (omega arith) p (omega arith))
     where
-      go : (t : Bool) → lies B c i j ≡ t → sum-from (suc j) n (term B L c i) ≡ tops (i .top) (sel B c i (suc j) n)
-          → sum-from j (suc n) (term B L c i) ≡ tops (i .top) (sel B c i j (suc n))
-      go true q h = rw q (omega (arith, adds-is B L j i true (home-is j (omega arith) q) (later k j l (omega arith) p q)))
+      go : (t : Bool) → lies B c i j ≡ t → sum-from (suc j) n (term B (adds B L) c i) ≡ tops (i .top) (sel B c i (suc j) n)
+          → sum-from j (suc n) (term B (adds B L) c i) ≡ tops (i .top) (sel B c i j (suc n))
+      go true q h = rw q (omega (arith, adds-is B L j i true (home-is B C L s c i m j (omega arith) q) (later B C L s c i m k j l (omega arith) p q)))
       go false q h = rw q (omega arith)
 
   -- and before
   unseen : (n j : ℕ) → ((k : ℕ) → k < j → lies B c i k ≡ false) → j + n ≡ B .count
-      → sum-from j n (term B L c i) ≡ lowest i (sel B c i j n) + tops (i .top) (sel B c i j n)
+      → sum-from j n (term B (adds B L) c i) ≡ lowest i (sel B c i j n) + tops (i .top) (sel B c i j n)
   unfolding sel tops sum-from term
   unseen zero j h e = omega arith
   unseen (suc n) j h e = go (lies B c i j) refl (λ q. unseen n (suc j) (λ k l. last-or (λ x. lies B c i x ≡ false) j k l (h k) q) (omega arith))
     where
       go : (t : Bool) → lies B c i j ≡ t
-          → (lies B c i j ≡ false → sum-from (suc j) n (term B L c i) ≡ lowest i (sel B c i (suc j) n) + tops (i .top) (sel B c i (suc j) n))
-          → sum-from j (suc n) (term B L c i) ≡ lowest i (sel B c i j (suc n)) + tops (i .top) (sel B c i j (suc n))
+          → (lies B c i j ≡ false → sum-from (suc j) n (term B (adds B L) c i) ≡ lowest i (sel B c i (suc j) n) + tops (i .top) (sel B c i (suc j) n))
+          → sum-from j (suc n) (term B (adds B L) c i) ≡ lowest i (sel B c i j (suc n)) + tops (i .top) (sel B c i j (suc n))
       go true q rest =
-          rw q (omega (arith, adds-is B L j i false (home-is j (omega arith) q) (first j (omega arith) h q), seen n (suc j) j (omega arith) q (omega arith)))
+          rw q (omega (arith, adds-is B L j i false (home-is B C L s c i m j (omega arith) q) (first B C L s c i m j (omega arith) h q), seen n (suc j) j (omega arith) q (omega arith)))
       go false q rest = rw q (omega (arith, rest q))
 
   -- THEOREM: what remains in the interval is what the blocks that lie in it add
-  remaining-terms : remaining B c i ≡ sum-below (B .count) (term B L c i)
+  remaining-terms : remaining B c i ≡ sum-below (B .count) (term B (adds B L) c i)
   unfolding remaining
   remaining-terms =
-      ap (λ K. cond (any-below (B .count) (lies B c i)) (length K) 0) left-gaps
+      ap (λ K. cond (holds-block B c i) (length K) 0) left-gaps
       ∙ mine-count (mine B c i) refl
-      ∙ sym (sum-front (B .count) (term B L c i) ∙ unseen (B .count) 0 (λ k l. absurd (omega arith)) (omega arith))
+      ∙ sym (sum-front (B .count) (term B (adds B L) c i) ∙ unseen (B .count) 0 (λ k l. absurd (omega arith)) (omega arith))
 
 -- ---- all columns
 
 module _ (B : Placed) (C : ℕ) (L : ℕ → List Interval) (s : Stands B C L) where
-  -- a block lies in one interval of one column
-  one-home : (k : ℕ) → k < B .count → sum-below C (λ c. sum-in (λ i. term B L c i k) (L c)) ≡ adds B L k
-  unfolding lies term
-  one-home k l = sum-single C (B .column k) (λ c. sum-in (λ i. term B L c i k) (L c)) (s .column k l) other ∙ here
-    where
-      other : (c : ℕ) → c < C → ¬ (c ≡ B .column k) → sum-in (λ i. term B L c i k) (L c) ≡ 0
-      other c h n = list-zero _ (L c) (λ i m. rw (ne-eqb (B .column k) c (omega arith)))
-
-      here : sum-in (λ i. term B L (B .column k) i k) (L (B .column k)) ≡ adds B L k
-      here =
-          rw (eq-eqb (B .column k) (B .column k) refl)
-          (one-counts (B .bottom k) (B .top k) (s .full k l) 0 (adds B L k) (L (B .column k)) (s .canon (B .column k)) (s .held k l))
-
   -- THEOREM: n is the sum, over the blocks, of what each adds
   pub pieces-adds : pieces B C L ≡ sum-below (B .count) (adds B L)
   unfolding pieces
-  pieces-adds =
-      sum-ext C _ _ (λ c l. list-ext _ _ (L c) (λ i m. remaining-terms B C L s c i m) ∙ list-swap (B .count) (term B L c) (L c))
-      ∙ sum-swap C (B .count) (λ c k. sum-in (λ i. term B L c i k) (L c))
-      ∙ sum-ext (B .count) _ _ one-home
+  pieces-adds = by-blocks B C L s (adds B L) (remaining B) (remaining-terms B C L s)

@@ -1,6 +1,6 @@
 -- MODEL 11: blocks that rise together inside their intervals. s stays, and n is no less while no block meets an end of its interval. Assumes nothing.
 use Prim.Native.Nat.{ℕ, zero, suc, _+_, _≤_, _<_}
-use mathlib.Core.Path.{_≡_, refl, ap}
+use mathlib.Core.Path.{_≡_, refl, sym, ap, _∙_}
 use mathlib.Core.Logic.{inl, inr}
 use mathlib.Core.Bool.{Bool, true, false, not, _&&_}
 use mathlib.Core.List.{List}
@@ -10,10 +10,11 @@ use borrow.Author.Tests.{lt-ltb}
 use Rattle.runs.specs.Intervals.{Interval, Holds}
 use Rattle.model.specs.Bounded.{sum-below}
 use Rattle.model.specs.Book.{Placed}
-use Rattle.model.specs.Choice.{pieces, home, stretch}
-use Rattle.model.specs.Homes.{bit, Room}
+use Rattle.model.specs.Choice.{pieces, stretch}
+use Rattle.model.specs.Homes.{bit, home, Room, joined, adds, first-span}
 use Rattle.model.specs.Laws.Bounded.{sum-ext, sum-mono}
-use Rattle.model.specs.Laws.Homes.{bit-small, Under, Stands, joined, adds, holder-at, Holder, holder-of, at-home}
+use Rattle.model.specs.Laws.Homes.{bit-small, Under, Stands, holder-at, Holder, holder-of, at-home}
+use Rattle.model.specs.Laws.Stretch.{stretch-firsts}
 use Rattle.model.specs.Laws.Pieces.{pieces-adds}
 
 -- D are the blocks B, all of them u higher
@@ -57,17 +58,21 @@ module _ (u : ℕ) (B D : Placed) (C : ℕ) (L : ℕ → List Interval) (s : Sta
           rw (r .column k l, r .bottom k l, r .top k l)
           (holder-of (home B L k) (B .bottom k + u) (B .top k + u) (L (B .column k)) (record { member = h .member; below = omega (arith, h .below); above = g }))
 
-  -- THEOREM: raised blocks have the same s
-  pub stretch-same : stretch D L ≡ stretch B L
-  unfolding stretch home
-  stretch-same = rw (r .count) (sum-ext (B .count) _ _ (λ k l. rw (home-same k l)))
-
   joined-same : (k : ℕ) → k < B .count → joined D L k ≡ joined B L k
   unfolding joined
   joined-same zero l = refl
   joined-same (suc j) l =
       let g : j < B .count = omega arith in
       rw (home-same j g, home-same (suc j) l, r .column j g, r .column (suc j) l)
+
+  -- THEOREM: raised blocks have the same s
+  pub stretch-same : stretch D C L ≡ stretch B C L
+  unfolding first-span
+  stretch-same =
+      stretch-firsts D C L raised-stands
+      ∙ ap (λ (n : ℕ). sum-below n (first-span D L)) (r .count)
+      ∙ sum-ext (B .count) _ _ (λ k l. rw (home-same k l, joined-same k l))
+      ∙ sym (stretch-firsts B C L s)
 
   -- a raised block that does not meet the top of its interval adds all that it can
   adds-more : (k : ℕ) → k < B .count → 0 < u → B .top k + u < home B L k .top → adds B L k ≤ adds D L k

@@ -1,7 +1,6 @@
--- `task::read_block`: each field of the block is the model's, and the kind is read by `kind-known` and `kind-unknown`. Assumes nothing.
+-- `task::read_block`: the block is where `extent_at` says, and the kind is read by `kind-known` and `kind-unknown`. Assumes nothing.
 use borrow.Author.Needs.{needs}
-use mathlib.Core.Path.{ap, _∙_}
-use Rattle.model.specs.Tasks.{lifted, block}
+use Rattle.model.specs.Tasks.{block}
 use Rattle.model.specs.Laws.Kinds.{kind-known, kind-unknown}
 use Rattle.task.proofs.read_block.Statement.{statement}
 use Rattle.task.proofs.read_block.Tie as tie
@@ -28,38 +27,19 @@ returns : tie.Need-returns
 unfolding block
 returns c = kind-unknown _ _ (c .before .before .of-byte .ensures) (c .enum-told .given .1)
 
-shared-slice-read-wide : tie.Need-shared-slice-read-wide
-shared-slice-read-wide c = search needs
-
-wide-requires : tie.Need-wide-requires
-wide-requires c κs = search needs
-
-add-get16 : tie.Need-add-get16
-add-get16 c = search needs
-
-get16-requires : tie.Need-get16-requires
-get16-requires c κs = search needs
-
-lift-requires : tie.Need-lift-requires
-lift-requires c κs = search needs
-
-add-get16-2 : tie.Need-add-get16-2
-add-get16-2 c = search needs
-
-get16-requires-2 : tie.Need-get16-requires-2
-get16-requires-2 c κs = search needs
-
-lift-requires-2 : tie.Need-lift-requires-2
-lift-requires-2 c κs = search needs
+extent-at-requires : tie.Need-extent-at-requires
+extent-at-requires c κs = search needs
 
 returns-2 : tie.Need-returns-2
 unfolding block
-returns-2 c = let k = c .before .before .before .before .before .before .before in
+returns-2 c =
+    let kind = c .before .before in
+    let extent = c .extent-at .ensures in
     record {
-      column = c .before .before .before .before .wide .ensures .is;
-      kind = kind-known _ _ _ (k .before .before .of-byte .ensures) (k .kind .given .1);
-      low = c .before .before .lift .ensures ∙ ap lifted (c .before .before .before .get16 .ensures .is);
-      high = c .lift2 .ensures ∙ ap lifted (c .before .get162 .ensures .is);
+      column = extent .column;
+      kind = kind-known _ _ _ (kind .before .before .of-byte .ensures) (kind .kind .given .1);
+      low = extent .low;
+      high = extent .high;
     }
 
 pub read-block-spec : {M : Type 1} → statement M
@@ -73,12 +53,5 @@ read-block-spec =
     enum-known-kind
     enum-told
     returns
-    shared-slice-read-wide
-    wide-requires
-    add-get16
-    get16-requires
-    lift-requires
-    add-get16-2
-    get16-requires-2
-    lift-requires-2
+    extent-at-requires
     returns-2)
