@@ -9,6 +9,7 @@
 //! - [`pair`]: a record and the oracle's book side by side, call by call;
 //! - [`histories`]: random histories, short and long, on small and large cards;
 //! - [`shapes`]: shapes with a 2-step and a 5-step, releases between free stretches, no position;
+//! - [`combs`]: tasks with several blocks in one free interval;
 //! - [`damage`]: damaged records, wrong lengths, random bytes;
 //! - [`flaws`]: records in which one sentence alone does not hold;
 //! - [`small`]: small cards exhaustively;
@@ -18,6 +19,7 @@
 #![deny(missing_docs)]
 #![forbid(unsafe_code)]
 
+pub mod combs;
 pub mod damage;
 pub mod flaws;
 pub mod fragments;

@@ -11,7 +11,7 @@ use oracle::Device;
 use crate::histories::Answers;
 use crate::pair::Pair;
 use crate::small::Cards;
-use crate::{damage, ensure, flaws, fragments, histories, limits, shapes, small, Trial};
+use crate::{combs, damage, ensure, flaws, fragments, histories, limits, shapes, small, Trial};
 
 /// How much a trial does.
 #[derive(Clone, Copy, Debug, PartialEq, Eq)]
@@ -69,6 +69,7 @@ macro_rules! for_every_trial {
             arguments_past_their_limits
             cards_like_labyrinths
             cards_broken_up_at_the_limits
+            combs_with_several_blocks_in_an_interval
         }
     };
 }
@@ -265,4 +266,11 @@ fn cards_like_labyrinths(subject: &dyn Calls, size: Size) -> Trial<()> {
 fn cards_broken_up_at_the_limits(subject: &dyn Calls, size: Size) -> Trial<()> {
     let most = fragments::at_the_limits(subject)?;
     worth(size, most == 64 * 32, most)
+}
+
+fn combs_with_several_blocks_in_an_interval(subject: &dyn Calls, size: Size) -> Trial<()> {
+    let tally = combs::in_intervals(subject, 15, size.of(120, 4000), 5)?;
+    let all = |counts: [usize; 3], least| counts.iter().all(|&count| count >= least);
+    let enough = all(tally.otherwise, 80) && all(tally.lying_in, 300);
+    worth(size, enough, tally)
 }

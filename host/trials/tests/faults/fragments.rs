@@ -8,11 +8,11 @@ use oracle::Kind;
 const WHOLE: i32 = 10_000;
 
 /// An interval with its column.
-#[derive(Clone, Copy)]
-struct Node {
-    column: usize,
-    bottom: u16,
-    top: u16,
+#[derive(Clone, Copy, PartialEq, Eq)]
+pub struct Node {
+    pub column: usize,
+    pub bottom: u16,
+    pub top: u16,
 }
 
 /// How many columns the second of two intervals is to the right.
@@ -26,7 +26,7 @@ fn shared(one: &Node, other: &Node) -> i32 {
 }
 
 /// All intervals of a record, by column and upwards.
-fn nodes(record: &[u8]) -> Vec<Node> {
+pub fn nodes(record: &[u8]) -> Vec<Node> {
     let in_column = |column| {
         let count = usize::from(record[COUNTS_AT + column]);
         let intervals = record[column_part(column)].chunks(INTERVAL_SIZE);

@@ -1,6 +1,7 @@
 //! The faults, among them every wrong program that document 01's agreement names.
 
 use crate::changes::*;
+use crate::choices::*;
 use crate::faulty::Fault;
 use crate::faulty::Wrong::*;
 use crate::fragments::*;
@@ -61,6 +62,12 @@ faults! {
     "list leaves out column 63": List(list_without_column_63);
     "choose takes the first position": Choose(choose_first);
     "choose answers in 16 bits": Choose(choose_in_16_bits);
+    "s has an interval for each block in it": Choose(counted_for_each_block);
+    "s has intervals of two columns with one bottom once": Choose(told_apart_by_bottoms);
+    "s has intervals of two columns with both ends alike once": Choose(told_apart_by_both_ends);
+    "s has the lowest interval of a column only": Choose(lowest_of_a_column_only);
+    "s has an interval again from its fifth block on": Choose(counted_again_from_the_fifth);
+    "s leaves out a column's intervals from the third on": Choose(from_the_third_left_out);
 
     "interval count takes one column too many": Count(one_column_too_many);
     "interval count cuts the column to 8 bits": Count(count_of_column_cut);

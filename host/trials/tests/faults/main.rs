@@ -2,6 +2,7 @@
 //! library, which is what is assumed, and `found.txt` says which trials find which of them.
 
 mod changes;
+mod choices;
 mod faulty;
 mod fragments;
 mod list;
@@ -12,6 +13,8 @@ use std::sync::OnceLock;
 use std::thread;
 
 use calls::{Calls, Card};
+use choices::choose_by_the_rule;
+use faulty::Wrong::Choose;
 use faulty::{Fault, Faulty};
 use trials::suite::{self, Size};
 
@@ -93,15 +96,18 @@ fn the_table_has_what_was_found() {
     assert!(text == WRITTEN, "found.txt is not this:\n{text}");
 }
 
+/// Where there is no fault, and where choose goes the way of its faults but has the right s.
 #[test]
 fn nothing_is_found_where_nothing_is_wrong() {
-    let faultless = Fault {
+    let no_fault = |wrong| Fault {
         name: "none",
-        wrong: &[],
+        wrong,
     };
-    for trial in suite::ALL {
-        let faulty = Faulty::new(RIGHT, &faultless);
-        let result = (trial.run)(&faulty, Size::Short);
-        assert!(result.is_ok(), "{}: {result:?}", trial.name);
+    for faultless in [no_fault(&[]), no_fault(&[Choose(choose_by_the_rule)])] {
+        for trial in suite::ALL {
+            let faulty = Faulty::new(RIGHT, &faultless);
+            let result = (trial.run)(&faulty, Size::Short);
+            assert!(result.is_ok(), "{}: {result:?}", trial.name);
+        }
     }
 }
