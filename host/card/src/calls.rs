@@ -86,7 +86,8 @@ impl<B: AsRef<[u8]>> Card<B> {
     /// Choose: the best of all positions at which the task fits.
     ///
     /// That is the one with the least n / s: few free intervals left over (n) of
-    /// the intervals that it cuts, and these high (s). Of equals it is the one in
+    /// the intervals that it cuts, and these high (s, their heights added up, each
+    /// interval once, however many blocks lie in it). Of equals it is the one in
     /// the lowest column, and there the lowest.
     ///
     /// [Checks the whole record](Card#what-a-call-costs) before it weighs the

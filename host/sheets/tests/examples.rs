@@ -36,7 +36,7 @@ fn text(name: &str, ending: &str) -> String {
 #[test]
 fn every_sheet_prints_the_output_beside_it() {
     let names = names();
-    assert_eq!(names.len(), 5, "{names:?}");
+    assert_eq!(names.len(), 6, "{names:?}");
     for name in names {
         let input = bytes(&name, "sheet");
         let expected = bytes(&name, "out");
