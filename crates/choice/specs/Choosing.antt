@@ -31,6 +31,10 @@ max-pieces = 2 * max-blocks
 abbrev pub max-stretch : ℕ
 max-stretch = 2 * max-rows * max-blocks
 
+-- n and s are within them
+abbrev pub InBounds : ℕ → ℕ → Type 0
+InBounds n s = (n ≤ max-pieces) × (s ≤ max-stretch)
+
 -- ---- one block
 
 -- MODEL 11.1: block k of B and its home, the interval in which it lies
@@ -74,10 +78,6 @@ span-of joined s = cond joined 0 (s .roof - s .floor)
 
 -- ---- the blocks so far
 
--- n and s are within their bounds
-abbrev pub Modest : Score → Type 0
-Modest x = (x .pieces ≤ max-pieces) × (x .stretch ≤ max-stretch)
-
 -- one block more: the score with it, and the block, which is then the last
 abbrev pub tally-with : Score → Bool → Seat → Tally
 tally-with x joined s = record {
@@ -112,7 +112,7 @@ pub record Scored (d : Device) (b : Book) (t : List ℕ) (p y : ℕ) (s : Score)
 -- its n and s are within their bounds
 abbrev pub Small : Best → Type 0
 Small Nothing = Unit {0}
-Small (At q z n s) = (n ≤ max-pieces) × (s ≤ max-stretch)
+Small (At q z n s) = InBounds n s
 
 -- b is the position f, with its n and s
 abbrev pub Is : Judge → Found → Best → Type 0

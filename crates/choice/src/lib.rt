@@ -17,7 +17,7 @@ ghost use Rattle.model.specs.Sound.{sound};
 ghost use Rattle.model.specs.Homes.{bit, holder};
 ghost use Rattle.listing.specs.Arrays.{Room};
 ghost use Rattle.listing.specs.Columns.{Given, ranges-in};
-ghost use Rattle.choice.specs.Choosing.{same-home, Housed, piece-below, pieces-of, span-of, Modest, tally-with, Scoring, max-pieces, max-stretch, Scored, Small, better-of, Rises, Climbed, FitsRange, RangesAre, Chooses};
+ghost use Rattle.choice.specs.Choosing.{same-home, Housed, InBounds, piece-below, pieces-of, span-of, tally-with, Scoring, max-pieces, max-stretch, Scored, Small, better-of, Rises, Climbed, FitsRange, RangesAre, Chooses};
 use column::Held;
 use column::Interval;
 use runs::Range;
@@ -120,7 +120,7 @@ fn span_of(joined: bool, seat: Seat) -> u32
 
 // One block more: the score with it, and its seat, which is then the last.
 fn with_block(score: Score, joined: bool, seat: Seat) -> Tally
-    requires { ⌜ Modest score × Housed seat ⌝ }
+    requires { ⌜ InBounds (score .pieces) (score .stretch) × Housed seat ⌝ }
     ensures { λ r. ⌜ r ≡ tally-with score joined seat ⌝ }
 {
     Tally {

@@ -14,7 +14,7 @@ use Rattle.model.specs.Homes.{home, joined, adds, first-span}
 use Rattle.model.specs.Laws.Bounded.{last-or}
 use Rattle.model.specs.Laws.Homes.{Stands, adds-is, first-span-is, adds-small}
 use Rattle.model.specs.Laws.Ends.{n-adds, s-firsts}
-use Rattle.choice.specs.Choosing.{Seated, same-home, Housed, pieces-of, span-of, Modest, tally-with, Scoring, Scored}
+use Rattle.choice.specs.Choosing.{Seated, same-home, Housed, pieces-of, span-of, InBounds, tally-with, Scoring, Scored}
 use Rattle.choice.specs.Laws.Seats.{test-joined}
 use Rattle.choice.specs.declared.Seat.{Seat}
 use Rattle.choice.specs.declared.Tally.{Tally}
@@ -34,8 +34,8 @@ module _ (B : Placed) (L : ℕ → List Interval) where
   }
 
   -- what `with_block` asks
-  pub modest : (k : ℕ) (x : Tally) → k < B .count → B .count ≤ max-blocks → Scoring B L k x → Modest (x .score)
-  modest k x l few r = (omega (arith, r .pieces-few), omega (arith, r .stretch-small))
+  pub bounded : (k : ℕ) (x : Tally) → k < B .count → B .count ≤ max-blocks → Scoring B L k x → InBounds (x .score .pieces) (x .score .stretch)
+  bounded k x l few r = (omega (arith, r .pieces-few), omega (arith, r .stretch-small))
 
   pub housed : (k : ℕ) (seat : Seat) → Seated B L k seat → Housed seat
   housed k seat g = record { low = omega (arith, g .below, g .full, g .above); above = g .above; roof-small = g .roof-small }
