@@ -103,8 +103,7 @@ pub record Scored (d : Device) (b : Book) (t : List ℕ) (p y : ℕ) (s : Score)
   pub pieces : s .pieces ≡ judge d b t .n p y
   pub stretch : s .stretch ≡ judge d b t .s p y
   pub room : Room (s .room) (placed t p y) (intervals d b)
-  pub pieces-few : s .pieces ≤ max-pieces
-  pub stretch-small : s .stretch ≤ max-stretch
+  pub bounds : InBounds (s .pieces) (s .stretch)
   pub room-small : s .room < words
 
 -- ---- the best so far

@@ -17,7 +17,7 @@ ghost use Rattle.model.specs.Sound.{sound};
 ghost use Rattle.model.specs.Homes.{bit, holder};
 ghost use Rattle.listing.specs.Arrays.{Room};
 ghost use Rattle.listing.specs.Columns.{Given, ranges-in};
-ghost use Rattle.choice.specs.Choosing.{same-home, Housed, InBounds, piece-below, pieces-of, span-of, tally-with, Scoring, max-pieces, max-stretch, Scored, Small, better-of, Rises, Climbed, FitsRange, RangesAre, Chooses};
+ghost use Rattle.choice.specs.Choosing.{same-home, Housed, InBounds, piece-below, pieces-of, span-of, tally-with, Scoring, Scored, Small, better-of, Rises, Climbed, FitsRange, RangesAre, Chooses};
 use column::Held;
 use column::Interval;
 use runs::Range;
@@ -133,7 +133,8 @@ fn with_block(score: Score, joined: bool, seat: Seat) -> Tally
     }
 }
 
-// Block k of a task at column, bottom is scored too, in the interval of the block before it or in the one that a search finds.
+// Block k of a task at column, bottom is scored too, in the interval of the block before it or in the one that a search finds. Each branch scores it
+// by itself, so that one that is joined costs no second test.
 fn add_block(record: &[u8], task: &[u8], column: u32, bottom: u32, k: usize, tally: Tally) -> Tally
     requires { ⌜ Given (now «record») (now task) × (fits (device-of (now «record»)) (book-of (now «record»)) (now task) column bottom ≡ true) × (k < blocks (now task)) × Scoring (placed (now task) column bottom) (intervals (device-of (now «record»)) (book-of (now «record»))) k tally ⌝ }
     ensures { λ r. ⌜ Scoring (placed (now (task .entry)) column bottom) (intervals (device-of (now («record» .entry))) (book-of (now («record» .entry)))) (k + 1) r ⌝ }
@@ -195,7 +196,7 @@ pub fn score_at(record: &[u8], task: &[u8], column: u32, bottom: u32) -> Score
 
 // MODEL 11.4 and 11.5: the better of the best so far and a position, and the best so far where they are equal.
 fn consider(best: Best, column: u32, bottom: u32, pieces: u32, stretch: u32) -> Best
-    requires { ⌜ Small best × (pieces ≤ max-pieces) × (stretch ≤ max-stretch) ⌝ }
+    requires { ⌜ Small best × InBounds pieces stretch ⌝ }
     ensures { λ r. ⌜ (r ≡ better-of best column bottom pieces stretch) × Small r ⌝ }
 {
     let new = Best::At {

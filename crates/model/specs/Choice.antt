@@ -15,7 +15,7 @@ use Rattle.model.specs.Book.{Book, Placed, placed, covered, fits, interv
 unfoldable pub lies : Placed → ℕ → Interval → ℕ → Bool
 lies B c i k = eqb (B .column k) c && leb (i .bottom) (B .bottom k) && leb (B .top k) (i .top)
 
--- MODEL 11.1: the interval i of column c holds a block of the task
+-- MODEL 11.1: the interval i of column c holds a block of the task: one lies in it
 unfoldable pub holds-block : Placed → ℕ → Interval → Bool
 holds-block B c i = any-below (B .count) (lies B c i)
 

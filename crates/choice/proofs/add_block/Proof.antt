@@ -63,7 +63,7 @@ with-block-requires c κs =
     let p = extent .before .before .before .pre in
     let same = sym (joins .joins .ensures) ∙ c .if1 .taken in
     let seat = seated-there _ _ (p .0) _ _ _ (p .1) (p .2) _ _ _ _ _ (extent .extent-at .ensures) refl refl refl (p .3 .last) same in
-    (bounded _ _ _ _ (p .2) (sized-to _ (p .0 .sized) .few) (p .3), housed _ _ _ _ seat)
+    (bounded _ _ _ _ (sized-to _ (p .0 .sized) .few) (p .3), housed _ _ _ _ seat)
 
 returns : tie.Need-returns
 unfolding placed
@@ -95,7 +95,7 @@ with-block-requires-2 c κs =
     let extent = c .before .before .before .before .before .before .before in
     let p = extent .before .before .before .pre in
     let seat = seated _ _ (p .0) _ _ _ (p .1) (p .2) _ _ _ _ _ (extent .extent-at .ensures) refl refl refl (c .home .ensures) in
-    (bounded _ _ _ _ (p .2) (sized-to _ (p .0 .sized) .few) (p .3), housed _ _ _ _ seat)
+    (bounded _ _ _ _ (sized-to _ (p .0 .sized) .few) (p .3), housed _ _ _ _ seat)
 
 returns-2 : tie.Need-returns-2
 unfolding placed

@@ -23,7 +23,7 @@ score-at-requires c κs =
     (p .0, p .1 .all-fit _ (l .loop .inv .steps, c .if1 .taken))
 
 consider-requires : tie.Need-consider-requires Inv-loop μ-loop
-consider-requires c κs = let s = c .score-at .ensures in (c .before .before .before .loop .inv .climbed .small, s .pieces-few, s .stretch-small)
+consider-requires c κs = let s = c .score-at .ensures in (c .before .before .before .loop .inv .climbed .small, s .bounds)
 
 rise-requires : tie.Need-rise-requires Inv-loop μ-loop
 rise-requires c κs = let p = c .before .before .before .before .before .before .before .pre in (c .before .score-at .ensures .room-small, range-step (p .0) (p .1))

@@ -28,7 +28,7 @@ use Rattle.model.specs.Laws.Climb.{climb-none}
 use Rattle.model.specs.Laws.Ends.{raised-steps, choose-step}
 use Rattle.listing.specs.Columns.{Given}
 use Rattle.listing.specs.Laws.Column.{some-blocks}
-use Rattle.choice.specs.Choosing.{max-pieces, max-stretch, Scored, Small, Is, better-of, Rises, Climbed, FitsRange}
+use Rattle.choice.specs.Choosing.{max-pieces, max-stretch, InBounds, Scored, Small, Is, better-of, Rises, Climbed, FitsRange}
 use Rattle.choice.specs.declared.Score.{Score}
 use Rattle.choice.specs.declared.Best.{Best}
 use Rattle.choice.specs.declared.Best.the-variants.{Nothing, At}
@@ -46,10 +46,10 @@ module _ (b : Best) (p y n s : ℕ) where
     pub better-old : m * s ≤ n * t → At q z m t ≡ better-of b p y n s
     better-old l = rw (e, le-ltb (n * t) (m * s) l)
 
-    pub products : Small b → n ≤ max-pieces → s ≤ max-stretch → (n * t ≤ max-pieces * max-stretch) × (m * s ≤ max-pieces * max-stretch)
-    products k l g =
+    pub products : Small b → InBounds n s → (n * t ≤ max-pieces * max-stretch) × (m * s ≤ max-pieces * max-stretch)
+    products k l =
         let h : Small (At q z m t) = rw e at k in
-        (mul-le-mul {n₁ = n} {m₁ = t} {n₂ = max-pieces} {m₂ = max-stretch} l (h .1), mul-le-mul {n₁ = m} {m₁ = s} {n₂ = max-pieces} {m₂ = max-stretch} (h .0) g)
+        (mul-le-mul {n₁ = n} {m₁ = t} {n₂ = max-pieces} {m₂ = max-stretch} (l .0) (h .1), mul-le-mul {n₁ = m} {m₁ = s} {n₂ = max-pieces} {m₂ = max-stretch} (h .0) (l .1))
 
 -- what was found, once column p, bottom y is seen too
 see-is : (J : Judge) (p y n s : ℕ) (f : Found) (b : Best) → n ≡ J .n p y → s ≡ J .s p y → Is J f b → Is J (see J p y f) (better-of b p y n s)

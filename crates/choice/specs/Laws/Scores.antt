@@ -33,9 +33,9 @@ module _ (B : Placed) (L : ℕ → List Interval) where
     room-small = u;
   }
 
-  -- what `with_block` asks
-  pub bounded : (k : ℕ) (x : Tally) → k < B .count → B .count ≤ max-blocks → Scoring B L k x → InBounds (x .score .pieces) (x .score .stretch)
-  bounded k x l few r = (omega (arith, r .pieces-few), omega (arith, r .stretch-small))
+  -- what `with_block` asks of the score and of the block
+  pub bounded : (k : ℕ) (x : Tally) → B .count ≤ max-blocks → Scoring B L k x → InBounds (x .score .pieces) (x .score .stretch)
+  bounded k x few r = (omega (arith, r .within, r .pieces-few), omega (arith, r .within, r .stretch-small))
 
   pub housed : (k : ℕ) (seat : Seat) → Seated B L k seat → Housed seat
   housed k seat g = record { low = omega (arith, g .below, g .full, g .above); above = g .above; roof-small = g .roof-small }
@@ -88,7 +88,6 @@ scored d b t p y k x w few f l r =
       pieces = (rw e at (r .pieces)) ∙ sym (n-adds d b t w p y f);
       stretch = (rw e at (r .stretch)) ∙ sym (s-firsts d b t w p y f);
       room = λ j i. r .room j (omega arith);
-      pieces-few = omega (arith, r .pieces-few);
-      stretch-small = omega (arith, r .stretch-small);
+      bounds = bounded (placed t p y) (intervals d b) k x few r;
       room-small = r .room-small;
     }
