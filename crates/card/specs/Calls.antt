@@ -6,4 +6,4 @@
 
 -- `history`, MODEL 15.1 to 15.9: for any bytes that new was lent, any device that it answered 0 for, and any list of calls that follows.
 -- `same_tasks_same_record`, MODEL 15.8: of two such lists on one device.
-pub use Rattle.model.specs.Laws.History.{history, same_tasks_same_record}
+pub use Rattle.model.proofs.Laws.History.{history, same_tasks_same_record}

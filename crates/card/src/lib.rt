@@ -2,6 +2,7 @@
 // Each contract fixes the answer and every lent byte by the model's call on these bytes (model/specs/OnRecord.antt), refused or not (MODEL 21.1).
 // In a contract `.entry` is what lies behind a reference as the call starts, and `.exit` as it returns. What is lent as `&` is kept by its type.
 // `on_record` is also the step of the theorem about whole histories (model/specs/Laws/History.antt).
+#![tactic(auto)]
 ghost use Rattle.std.specs.Prelude.{◌≡◌, true, [], leb, length};
 ghost use Rattle.model.specs.Limits.{max_running};
 ghost use Rattle.model.specs.Book.{fits_at};

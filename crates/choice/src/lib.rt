@@ -1,6 +1,7 @@
 // MODEL 11: the choice for a task on a sound record. The score of a position, the way up a range, a column, and all columns.
 // Only the lowest and the highest bottom of each stretch in which no block leaves its free interval are scored: between them s stays the same
 // and n is no less (model/specs/Laws/Ends.antt).
+#![tactic(auto)]
 ghost use Rattle.std.specs.Prelude.{◌≡◌, suc, ◌+◌, ◌≤◌, ◌<◌, true, ltb};
 ghost use Rattle.runs.specs.Intervals.{interval, Holds};
 ghost use Rattle.runs.specs.Meet.{Step};
@@ -23,7 +24,7 @@ use runs::{Range, lower};
 const MOST_ROOM: u32 = 65535;
 
 // MODEL 11.1: a block where it stands, and the bottom and the top of the free interval that holds it.
-#[derive(Drop)]
+#[derive(Clone, Copy)]
 struct Seat {
     column: u32,
     bottom: u32,

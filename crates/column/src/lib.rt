@@ -1,5 +1,7 @@
 // MODEL 12.4 and 12.5: one column's intervals. Its part, lent out of the middle of the record (MODEL 21.5), is cut, joined and searched.
 // The part is read from its front, and what it becomes is written into a part of zeros that is copied back.
+#![tactic(auto)]
+
 ghost use Rattle.std.specs.Prelude.{◌≡◌, [], ◌∷◌, ◌<◌, length};
 ghost use Rattle.runs.specs.Intervals.{interval, piece, subtract, unite};
 ghost use Rattle.model.specs.Limits.{max_intervals, column_size, words};
@@ -11,7 +13,7 @@ use runs::{higher, lower};
 use words::{copy, get16, put16};
 
 // MODEL 7.2: the half rows from bottom up to top, top excluded.
-#[derive(Drop)]
+#[derive(Clone, Copy)]
 pub struct Interval {
     pub bottom: u32,
     pub top: u32,

@@ -1,4 +1,6 @@
 // MODEL 17 and 18: the lines of a sheet, how one is read, how a block call's bytes are made, and how a line of output is printed.
+#![tactic(auto)]
+
 pub mod fields; // the fields of a line
 pub mod call; // a sheet line as one of six calls
 pub mod block; // a block call as bytes of a task

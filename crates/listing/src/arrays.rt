@@ -8,7 +8,7 @@ use crate::LIFT;
 use runs::{Met, Range};
 
 // How many runs a list has, and their step.
-#[derive(Drop)]
+#[derive(Clone, Copy)]
 pub struct Runs {
     pub count: usize,
     pub step: u32,

@@ -1,4 +1,4 @@
--- The definitions of docs/MODEL.md, clause by clause. What is proved of them stands under Laws.
+-- The definitions of docs/MODEL.md, clause by clause. What is proved of them stands in proofs/Laws.
 pub mod Limits
 pub mod Bounded
 pub mod Columns
@@ -26,5 +26,3 @@ pub mod Parts
 pub mod InPlace
 pub mod Blocks
 pub mod Homes
--- what is proved
-pub mod Laws

@@ -1,5 +1,7 @@
 // The model (docs/MODEL.md). Its definitions stand in specs/, what is proved of them in specs/Laws.
 // The code here is the kind of a column, and the limits, lengths and offsets that all other crates use.
+#![tactic(auto)]
+
 ghost use Rattle.std.specs.Prelude.{◌≡◌, ◌/◌, ◌%◌, ◌≤◌, eqb};
 ghost use Rattle.model.specs.Limits.{max_rows};
 ghost use Rattle.model.specs.Columns.{height, cells_in, top_in};
@@ -90,7 +92,7 @@ pub const COLUMN_WEIGHT: u32 = 1024;
 pub const WHOLE_DEGREE: u32 = 10000;
 
 // MODEL 3.3: the kind of a column: logic (CLB), memory (BRAM) or multiplier (DSP).
-#[derive(Drop)]
+#[derive(Clone, Copy)]
 pub enum Kind {
     C,
     B,

@@ -1,5 +1,7 @@
 // Sets of nodes as a forest of parents: each node alone, the root of a node, and the sets of two nodes made one.
 // A node is an index, and its parent is not above it; a root is its own parent. The theory is in specs/.
+#![tactic(auto)]
+
 ghost use Rattle.std.specs.Prelude.{◌≡◌, not, ◌≤◌, ◌<◌, eqb, length};
 ghost use Rattle.sets.specs.Forest.{Falls, at, root as root-of, union, Alone, Parents};
 

@@ -1,5 +1,6 @@
 // The sheet: reads standard input, has `desk` make one turn after the other, and writes what each prints to standard output.
 // A read or a write that fails is told on standard error; then `./sheet` ends with status 1, which a program of the kit cannot do itself.
+#![tactic(auto)]
 ghost use Rattle.std.specs.Prelude.{length, ◌≤◌};
 
 use libc::{STDIN_FILENO, STDOUT_FILENO};

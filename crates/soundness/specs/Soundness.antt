@@ -6,7 +6,7 @@ use Rattle.model.specs.Book.{Book, held, intervals}
 use Rattle.model.specs.Record.{part, column_at, entry_at, device_of, book_of}
 use Rattle.model.specs.Sound.{within, block_count, count_of, sound}
 use Rattle.model.specs.InPlace.{no_entry}
-use Rattle.model.specs.Laws.Clauses.{Zero}
+use Rattle.model.proofs.Laws.Clauses.{Zero}
 use Rattle.cells.specs.Ends.{PartIs}
 use Rattle.cells.specs.Laws.Book.{Shown}
 use Rattle.marks.specs.Marks.{words_of, Bitmap}

@@ -1,5 +1,7 @@
 // MODEL 4 and 10.1: a task's bytes, its blocks as values, whether it is well-formed, and its step.
 // The model's definitions are those of model/specs/Tasks.antt; specs/ here ties the code's blocks to the model's.
+#![tactic(auto)]
+
 ghost use Rattle.std.specs.Prelude.{◌≡◌, ◌+◌, ◌*◌, ◌≤◌, ◌<◌, length, get_or, eqb};
 ghost use Rattle.model.specs.Limits.{block_size, max_kind, words};
 ghost use Rattle.model.specs.Columns.{height, kind_C};
@@ -10,7 +12,7 @@ use model::{Kind, KindRead};
 use words::{get16, wide};
 
 // MODEL 4.2 and 4.9: a block. Low and high are its bottom and top plus REACH, so that neither is negative.
-#[derive(Drop)]
+#[derive(Clone, Copy)]
 pub struct Block {
     pub column: u32,
     pub kind: Kind,

@@ -1,4 +1,6 @@
 // Numbers and bytes in a slice: numbers of two bytes (MODEL 4.3) read and written, a slice copied, wiped, compared, and tested for zeros.
+#![tactic(auto)]
+
 ghost use Rattle.std.specs.Prelude.{◌≡◌, ◌+◌, ◌<◌, length, get_or, replicate};
 ghost use Rattle.model.specs.Limits.{words};
 ghost use Rattle.model.specs.Record.{bytes16};

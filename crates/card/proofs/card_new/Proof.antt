@@ -1,6 +1,6 @@
 -- `card_new`: −1, −3, or the record of the device with all cells free. Assumes nothing.
 use borrow.Author.Rules.{rules}
-use Rattle.model.specs.Laws.OnRecord.{new_wrong_length, new_bad_device, new_done}
+use Rattle.model.proofs.Laws.OnRecord.{new_wrong_length, new_bad_device, new_done}
 use Rattle.card.specs.Laws.Answers.{yes, no, leaves}
 use Rattle.card.proofs.card_new.Statement.{statement}
 use Rattle.card.proofs.card_new.Tie as tie

@@ -2,7 +2,7 @@
 use borrow.Author.Rules.{rules}
 use native.Mathlib.Omega.{arith}
 use Rattle.model.specs.Limits.{columns_at}
-use Rattle.model.specs.Laws.Sound.{sound_length}
+use Rattle.model.proofs.Laws.Sound.{sound_length}
 use Rattle.card.specs.Laws.Checks.{checked, record_column}
 use Rattle.card.specs.Laws.Intervals.{count_none, count_some}
 use Rattle.card.proofs.check_column.Statement.{statement}

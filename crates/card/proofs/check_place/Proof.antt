@@ -2,7 +2,7 @@
 use borrow.Author.Rules.{rules}
 use native.Mathlib.Omega.{arith}
 use mathlib.Core.Path.{sym, ◌∙◌}
-use Rattle.model.specs.Laws.WriteBack.{Bytes}
+use Rattle.model.proofs.Laws.WriteBack.{Bytes}
 use Rattle.listing.specs.Columns.{Given}
 use Rattle.card.specs.Laws.Answers.{yes, no}
 use Rattle.card.specs.Laws.Checks.{check_given}

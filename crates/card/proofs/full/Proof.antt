@@ -1,7 +1,7 @@
 -- `full`: the running byte. Assumes nothing.
 use native.Mathlib.Omega.{arith}
 use Rattle.model.specs.Limits.{running_at}
-use Rattle.model.specs.Laws.Sound.{sound_length}
+use Rattle.model.proofs.Laws.Sound.{sound_length}
 use Rattle.card.specs.Laws.Answers.{full_said}
 use Rattle.card.proofs.full.Statement.{statement}
 use Rattle.card.proofs.full.Tie as tie

@@ -7,7 +7,7 @@ use Rattle.model.specs.Book.{Book}
 use Rattle.model.specs.Record.{book_of}
 use Rattle.model.specs.Sound.{number_ok}
 use Rattle.model.specs.Calls.{Outcome, runs_in}
-use Rattle.model.specs.Laws.Sound.{running_said}
+use Rattle.model.proofs.Laws.Sound.{running_said}
 use Rattle.record.specs.Entries.{Finds}
 use Rattle.record.specs.Laws.Entries.{found_true}
 use Rattle.record.specs.declared.entries.Found.{Found}

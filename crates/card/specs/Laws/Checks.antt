@@ -7,8 +7,8 @@ use Rattle.model.specs.Record.{device_of, book_of}
 use Rattle.model.specs.Sound.{sound}
 use Rattle.model.specs.Calls.{Call, list, choose, place, release, refused, refusals}
 use Rattle.model.specs.OnRecord.{interval_count, view_of, view}
-use Rattle.model.specs.Laws.WriteBack.{Bytes}
-use Rattle.model.specs.Laws.OnRecord.{plain_refusal, wrong_length_call, not_sound_call, refused_call, count_wrong_length, count_not_sound, fragmentation_wrong_length, fragmentation_not_sound}
+use Rattle.model.proofs.Laws.WriteBack.{Bytes}
+use Rattle.model.proofs.Laws.OnRecord.{plain_refusal, wrong_length_call, not_sound_call, refused_call, count_wrong_length, count_not_sound, fragmentation_wrong_length, fragmentation_not_sound}
 use Rattle.listing.specs.Columns.{Given}
 use Rattle.card.specs.declared.Check.{Check}
 use Rattle.card.specs.declared.Check.TheVariants.{Pass, Refuse}

@@ -10,7 +10,7 @@ use Rattle.model.specs.Fragments.{free_cells, connected_sets, degree}
 use Rattle.model.specs.Record.{device_of, book_of}
 use Rattle.model.specs.Sound.{sound}
 use Rattle.model.specs.OnRecord.{Fragmentation, measured, fragmentation}
-use Rattle.model.specs.Laws.OnRecord.{fragmentation_done}
+use Rattle.model.proofs.Laws.OnRecord.{fragmentation_done}
 use Rattle.fragments.specs.Free.{max_free}
 use Rattle.card.specs.declared.Check.{Check}
 use Rattle.card.specs.declared.Check.TheVariants.{Refuse}

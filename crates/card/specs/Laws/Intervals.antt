@@ -9,12 +9,12 @@ use Rattle.model.specs.Columns.{columns}
 use Rattle.model.specs.Record.{device_of, book_of, part, column_at}
 use Rattle.model.specs.Sound.{sound, count_of}
 use Rattle.model.specs.OnRecord.{interval_count, view_of, view}
-use Rattle.model.specs.Laws.WriteBack.{Bytes}
-use Rattle.model.specs.Laws.Limits.{limits_to}
-use Rattle.model.specs.Laws.Record.{record_count}
-use Rattle.model.specs.Laws.Sound.{columns_said, sound_record}
-use Rattle.model.specs.Laws.Clauses.{clauses_to}
-use Rattle.model.specs.Laws.OnRecord.{count_no_column, count_done}
+use Rattle.model.proofs.Laws.WriteBack.{Bytes}
+use Rattle.model.proofs.Laws.Limits.{limits_to}
+use Rattle.model.proofs.Laws.Record.{record_count}
+use Rattle.model.proofs.Laws.Sound.{columns_said, sound_record}
+use Rattle.model.proofs.Laws.Clauses.{clauses_to}
+use Rattle.model.proofs.Laws.OnRecord.{count_no_column, count_done}
 use Rattle.record.specs.Fits.{Listed}
 use Rattle.card.specs.declared.Check.{Check}
 use Rattle.card.specs.declared.Check.TheVariants.{Pass, Refuse}

@@ -14,9 +14,9 @@ use Rattle.model.specs.Record.{record_of, device_of, book_of}
 use Rattle.model.specs.Sound.{sound, number_ok}
 use Rattle.model.specs.Calls.{place, lent, refused, refusals, insert, natural, runs_in, done}
 use Rattle.model.specs.OnRecord.{written, on_record}
-use Rattle.model.specs.Laws.Bounded.{clash}
-use Rattle.model.specs.Laws.WriteBack.{Bytes}
-use Rattle.model.specs.Laws.OnRecord.{refused_call, done_call}
+use Rattle.model.proofs.Laws.Bounded.{clash}
+use Rattle.model.proofs.Laws.WriteBack.{Bytes}
+use Rattle.model.proofs.Laws.OnRecord.{refused_call, done_call}
 use Rattle.listing.specs.Columns.{Given}
 use Rattle.record.specs.Enter.{Placeable}
 use Rattle.card.specs.declared.Check.{Check}

@@ -14,11 +14,11 @@ use Rattle.model.specs.Record.{device_of, book_of}
 use Rattle.model.specs.Sound.{sound}
 use Rattle.model.specs.Calls.{list, choose, lent, refused, refusals, unless, done, on_book}
 use Rattle.model.specs.OnRecord.{written, on_record}
-use Rattle.model.specs.Laws.WriteBack.{Bytes}
-use Rattle.model.specs.Laws.Limits.{limits_to}
-use Rattle.model.specs.Laws.Listing.{ranges_length}
-use Rattle.model.specs.Laws.Sound.{sound_within}
-use Rattle.model.specs.Laws.OnRecord.{sound_call, refused_call, list_leaves, choose_leaves}
+use Rattle.model.proofs.Laws.WriteBack.{Bytes}
+use Rattle.model.proofs.Laws.Limits.{limits_to}
+use Rattle.model.proofs.Laws.Listing.{ranges_length}
+use Rattle.model.proofs.Laws.Sound.{sound_within}
+use Rattle.model.proofs.Laws.OnRecord.{sound_call, refused_call, list_leaves, choose_leaves}
 use Rattle.listing.specs.Columns.{Given}
 use Rattle.listing.specs.Output.{answer_of, Answers}
 use Rattle.listing.specs.Laws.Output.{count_is}

@@ -4,8 +4,8 @@ use Rattle.model.specs.Record.{record_of, device_of, book_of}
 use Rattle.model.specs.Sound.{sound}
 use Rattle.model.specs.Calls.{release, lent, refused, refusals, without, runs_in, done}
 use Rattle.model.specs.OnRecord.{written, on_record}
-use Rattle.model.specs.Laws.WriteBack.{Bytes}
-use Rattle.model.specs.Laws.OnRecord.{refused_call, done_call}
+use Rattle.model.proofs.Laws.WriteBack.{Bytes}
+use Rattle.model.proofs.Laws.OnRecord.{refused_call, done_call}
 use Rattle.card.specs.declared.Check.{Check}
 use Rattle.card.specs.declared.Check.TheVariants.{Pass, Refuse}
 use Rattle.card.specs.Leaves.{Changes, Refused, ChecksRelease}

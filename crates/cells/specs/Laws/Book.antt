@@ -15,11 +15,11 @@ use Rattle.model.specs.Bounded.{any_below}
 use Rattle.model.specs.Columns.{Device, columns, kind, cells, top, top_in, height}
 use Rattle.model.specs.Tasks.{blocks, block, well_formed}
 use Rattle.model.specs.Book.{Book, Placed, placed, covers, held, free, intervals}
-use Rattle.model.specs.Laws.Bounded.{any_none}
-use Rattle.model.specs.Laws.Columns.{height_pos}
-use Rattle.model.specs.Laws.Tasks.{in_order}
-use Rattle.model.specs.Laws.Split.{neither}
-use Rattle.model.specs.Laws.Cells.{whole_cells}
+use Rattle.model.proofs.Laws.Bounded.{any_none}
+use Rattle.model.proofs.Laws.Columns.{height_pos}
+use Rattle.model.proofs.Laws.Tasks.{in_order}
+use Rattle.model.proofs.Laws.Split.{neither}
+use Rattle.model.proofs.Laws.Cells.{whole_cells}
 use Rattle.cells.specs.Bits.{cell_bit, between, Marked}
 use Rattle.cells.specs.Ends.{is_free, bit_intervals}
 

@@ -8,11 +8,11 @@ use Rattle.runs.specs.Intervals.{Interval}
 use Rattle.model.specs.Limits.{max_intervals, column_size, interval_size}
 use Rattle.model.specs.Record.{bytes16, interval_bytes, padded, slot, column_part}
 use Rattle.model.specs.Parts.{splice}
-use Rattle.model.specs.Laws.Parts.{part_byte}
-use Rattle.model.specs.Laws.Bounded.{map_append}
-use Rattle.model.specs.Laws.Slots.{length_padded, get_d_padded, padded_by, part_slots}
-use Rattle.model.specs.Laws.Record.{length_column}
-use Rattle.model.specs.Laws.Cells.{scaled}
+use Rattle.model.proofs.Laws.Parts.{part_byte}
+use Rattle.model.proofs.Laws.Bounded.{map_append}
+use Rattle.model.proofs.Laws.Slots.{length_padded, get_d_padded, padded_by, part_slots}
+use Rattle.model.proofs.Laws.Record.{length_column}
+use Rattle.model.proofs.Laws.Cells.{scaled}
 use Rattle.cells.specs.Ends.{ends, coded, SmallEnds, numbered}
 
 pub length_coded : (L : List ℕ) → length (coded L) ≡ 2 * length L

@@ -3,7 +3,7 @@ use Rattle.std.specs.Prelude.{ℕ, zero, suc, ◌+◌, ◌-◌, ◌*◌, ◌/◌
 use Rattle.std.proofs.Common.{sym, ap, ap₂, ◌∙◌, arith, pow-suc, add-zero}
 use Rattle.std.specs.Int.Count.{ones, ones_step}
 use Rattle.model.specs.Bounded.{sum_below}
-use Rattle.model.specs.Laws.Bounded.{sum_ext, sum_zero}
+use Rattle.model.proofs.Laws.Bounded.{sum_ext, sum_zero}
 use Rattle.cells.specs.Bits.{top_bit, word_bits, is_set, digit, cell_bit}
 use Rattle.cells.specs.Laws.Marks.{bit_in_word}
 

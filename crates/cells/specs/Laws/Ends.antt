@@ -7,8 +7,8 @@ use native.Mathlib.Omega.{arith}
 use Rattle.runs.specs.Laws.Tests.{tests, lt_or_ge}
 use Rattle.runs.specs.Intervals.{Interval, Named, Apart, intervals as maximal-runs, piece}
 use Rattle.runs.specs.Laws.Intervals.{named_ge, piece_apart, piece_to, piece_of, intervals_free, free_intervals}
-use Rattle.model.specs.Laws.Bounded.{and_to, and_of, is_false}
-use Rattle.model.specs.Laws.Cells.{whole_cells}
+use Rattle.model.proofs.Laws.Bounded.{and_to, and_of, is_false}
+use Rattle.model.proofs.Laws.Cells.{whole_cells}
 use Rattle.cells.specs.Bits.{cell_bit}
 use Rattle.model.specs.Limits.{words}
 use Rattle.cells.specs.Ends.{hits, one_below, differs, change, ends, is_free, free_below, bit_intervals, SmallEnds}

@@ -7,7 +7,7 @@ use Rattle.std.specs.Int.Bits.{bit_and, bit_or, bit_xor}
 use Rattle.std.proofs.lemmas.Nat.{and_le_l}
 use Rattle.std.proofs.lemmas.Bool.{lt-leb, eqb-false}
 use Rattle.runs.specs.Laws.Tests.{tests, lt_or_ge}
-use Rattle.model.specs.Laws.Bounded.{and_to, same_test, true_or_false}
+use Rattle.model.proofs.Laws.Bounded.{and_to, same_test, true_or_false}
 use Rattle.words.specs.Laws.Zeros.{or_none, or_zero}
 use Rattle.cells.specs.Bits.{top_bit, word_bits, is_set, digit, cell_bit, between, Shows, Marked}
 use Rattle.cells.specs.Ends.{one_below, differs, change, is_free, free_below}

@@ -11,8 +11,8 @@ use Rattle.runs.specs.Laws.Runs.{in_step_one, runs_count}
 use Rattle.model.specs.Limits.{max_intervals, column_size, words}
 use Rattle.model.specs.Record.{bytes16, column_part}
 use Rattle.model.specs.Parts.{splice}
-use Rattle.model.specs.Laws.Parts.{length_splice}
-use Rattle.model.specs.Laws.Cells.{scaled}
+use Rattle.model.proofs.Laws.Parts.{length_splice}
+use Rattle.model.proofs.Laws.Cells.{scaled}
 use Rattle.cells.specs.Bits.{word_bits, is_set, Shows}
 use Rattle.cells.specs.Ends.{hits, spots, one_below, change, ends, is_free, free_below, bit_intervals, ColumnBits, numbered, Writable, EndsWritten, PartIs}
 use Rattle.cells.specs.Laws.Spots.{cleared, spots_none, spots_next, spots_hits, hits_append}

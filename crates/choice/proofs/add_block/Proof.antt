@@ -4,8 +4,8 @@ use mathlib.Core.Path.{refl, sym, ◌∙◌}
 use native.Mathlib.Omega.{arith}
 use borrow.Author.Rules.{rules}
 use Rattle.model.specs.Book.{placed}
-use Rattle.model.specs.Laws.Tasks.{sized_to}
-use Rattle.model.specs.Laws.Ends.{stands}
+use Rattle.model.proofs.Laws.Tasks.{sized_to}
+use Rattle.model.proofs.Laws.Ends.{stands}
 use Rattle.task.specs.Laws.Blocks.{block_within}
 use Rattle.choice.specs.Laws.Seats.{stood, seated, seated_there}
 use Rattle.choice.specs.Laws.Scores.{bounded, housed, scoring_next}

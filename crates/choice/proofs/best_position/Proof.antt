@@ -4,7 +4,7 @@ use Prim.Native.Nat.{◌+◌, ◌-◌}
 use mathlib.Core.Path.{refl, sym}
 use native.Mathlib.Omega.{arith}
 use Rattle.model.specs.Record.{device_of, book_of}
-use Rattle.model.specs.Laws.Sound.{sound_length}
+use Rattle.model.proofs.Laws.Sound.{sound_length}
 use Rattle.listing.specs.Arrays.{Room}
 use Rattle.choice.specs.Laws.Columns.{Best_of, best_none, best_next, column_count, chooses}
 use Rattle.choice.proofs.best_position.Statement.{statement}

@@ -2,7 +2,7 @@
 use Prim.Native.Nat.{◌+◌, ◌-◌}
 use native.Mathlib.Omega.{arith}
 use Rattle.model.specs.Record.{device_of, book_of}
-use Rattle.model.specs.Laws.Tasks.{sized_to}
+use Rattle.model.proofs.Laws.Tasks.{sized_to}
 use Rattle.choice.specs.Laws.Climbs.{range_step, rise_pos, bottom_small, Climbing, climbing_start, climbing_next, climbing_done}
 use Rattle.choice.proofs.climb_range.Statement.{statement}
 use Rattle.choice.proofs.climb_range.Tie as tie

@@ -3,7 +3,7 @@ use Prim.Native.Nat.{◌-◌}
 use native.Mathlib.Omega.{arith}
 use lib.ListN.{length}
 use Rattle.model.specs.Record.{device_of, book_of}
-use Rattle.model.specs.Laws.Tasks.{sized_to}
+use Rattle.model.proofs.Laws.Tasks.{sized_to}
 use Rattle.choice.specs.Laws.Columns.{Passed, passed_none, range_fits, passed_next, passed_all}
 use Rattle.choice.proofs.climb_ranges.Statement.{statement}
 use Rattle.choice.proofs.climb_ranges.Tie as tie

@@ -1,6 +1,6 @@
 -- `choice::home` meets its contract: the part that is lent lists the free intervals of the column. Assumes nothing.
 use native.Mathlib.Omega.{arith}
-use Rattle.model.specs.Laws.Sound.{sound_length}
+use Rattle.model.proofs.Laws.Sound.{sound_length}
 use Rattle.choice.specs.Laws.Seats.{part_lent, home_is, home_missing}
 use borrow.Author.Rules.{rules}
 use Rattle.choice.proofs.home.Statement.{statement}

@@ -5,7 +5,7 @@ use native.Mathlib.Omega.{arith}
 use Rattle.model.specs.Tasks.{blocks}
 use Rattle.model.specs.Book.{placed, intervals}
 use Rattle.model.specs.Record.{device_of, book_of}
-use Rattle.model.specs.Laws.Tasks.{sized_to}
+use Rattle.model.proofs.Laws.Tasks.{sized_to}
 use Rattle.choice.specs.Choosing.{Scoring}
 use Rattle.choice.specs.Laws.Scores.{scoring_none, scored}
 use Rattle.choice.proofs.score_at.Statement.{statement}

@@ -14,13 +14,13 @@ use Rattle.model.specs.Book.{Book, placed, fits, intervals}
 use Rattle.model.specs.Choice.{Judge, judge, Found, at, better, see, climb}
 use Rattle.model.specs.Record.{device_of, book_of}
 use Rattle.model.specs.Homes.{Room}
-use Rattle.model.specs.Laws.Bounded.{clash, is_false}
-use Rattle.model.specs.Laws.Fits.{fits_below}
-use Rattle.model.specs.Laws.Steps.{step_bounds, fits_steps}
-use Rattle.model.specs.Laws.Limits.{limits_to}
-use Rattle.model.specs.Laws.Sound.{sound_within}
-use Rattle.model.specs.Laws.Climb.{climb_none}
-use Rattle.model.specs.Laws.Ends.{raised_steps, choose_step}
+use Rattle.model.proofs.Laws.Bounded.{clash, is_false}
+use Rattle.model.proofs.Laws.Fits.{fits_below}
+use Rattle.model.proofs.Laws.Steps.{step_bounds, fits_steps}
+use Rattle.model.proofs.Laws.Limits.{limits_to}
+use Rattle.model.proofs.Laws.Sound.{sound_within}
+use Rattle.model.proofs.Laws.Climb.{climb_none}
+use Rattle.model.proofs.Laws.Ends.{raised_steps, choose_step}
 use Rattle.listing.specs.Columns.{Given}
 use Rattle.listing.specs.Laws.Column.{some_blocks}
 use Rattle.choice.specs.Choosing.{max_pieces, max_stretch, InBounds, Scored, Small, Is, better_of, Rises, Climbed, FitsRange}

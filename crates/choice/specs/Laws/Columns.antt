@@ -15,15 +15,15 @@ use Rattle.model.specs.Book.{Book, fits}
 use Rattle.model.specs.Choice.{judge, at, climb, choice, chosen}
 use Rattle.model.specs.Record.{device_of, book_of}
 use Rattle.model.specs.Calls.{choose, no_position, position_number, refused, refusals, unless, done, on_book}
-use Rattle.model.specs.Laws.Bounded.{clash, is_false}
-use Rattle.model.specs.Laws.Fits.{fits_below}
-use Rattle.model.specs.Laws.Step.{choose_none}
-use Rattle.model.specs.Laws.Steps.{step_bounds, fits_steps}
-use Rattle.model.specs.Laws.Limits.{limits_to}
-use Rattle.model.specs.Laws.Sound.{columns_said, sound_within}
-use Rattle.model.specs.Laws.Climb.{climb_none}
-use Rattle.model.specs.Laws.Ends.{chosen_at}
-use Rattle.model.specs.Laws.NoPosition.{chosen_nothing_iff}
+use Rattle.model.proofs.Laws.Bounded.{clash, is_false}
+use Rattle.model.proofs.Laws.Fits.{fits_below}
+use Rattle.model.proofs.Laws.Step.{choose_none}
+use Rattle.model.proofs.Laws.Steps.{step_bounds, fits_steps}
+use Rattle.model.proofs.Laws.Limits.{limits_to}
+use Rattle.model.proofs.Laws.Sound.{columns_said, sound_within}
+use Rattle.model.proofs.Laws.Climb.{climb_none}
+use Rattle.model.proofs.Laws.Ends.{chosen_at}
+use Rattle.model.proofs.Laws.NoPosition.{chosen_nothing_iff}
 use Rattle.listing.specs.Arrays.{Room}
 use Rattle.listing.specs.Columns.{Given, ranges_in, Ranged}
 use Rattle.listing.specs.Laws.Column.{some_columns, few_columns, some_blocks}

@@ -12,9 +12,9 @@ use Rattle.model.specs.Columns.{Device}
 use Rattle.model.specs.Tasks.{blocks, well_formed}
 use Rattle.model.specs.Book.{Book, Placed, placed, fits, intervals}
 use Rattle.model.specs.Homes.{home, joined, adds, first_span}
-use Rattle.model.specs.Laws.Bounded.{last_or}
-use Rattle.model.specs.Laws.Homes.{Stands, adds_is, first_span_is, adds_small}
-use Rattle.model.specs.Laws.Ends.{n_adds, s_firsts}
+use Rattle.model.proofs.Laws.Bounded.{last_or}
+use Rattle.model.proofs.Laws.Homes.{Stands, adds_is, first_span_is, adds_small}
+use Rattle.model.proofs.Laws.Ends.{n_adds, s_firsts}
 use Rattle.choice.specs.Choosing.{Seated, same_home, Housed, pieces_of, span_of, InBounds, tally_with, Scoring, Scored}
 use Rattle.choice.specs.Laws.Seats.{test_joined}
 use Rattle.choice.specs.declared.Seat.{Seat}

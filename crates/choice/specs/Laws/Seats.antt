@@ -13,16 +13,16 @@ use Rattle.model.specs.Book.{Book, Placed, placed, fits, intervals}
 use Rattle.model.specs.Homes.{holder, home, joined}
 use Rattle.model.specs.Record.{device_of, book_of}
 use Rattle.model.specs.Sound.{count_of, sound}
-use Rattle.model.specs.Laws.Columns.{top_le}
-use Rattle.model.specs.Laws.Tasks.{full_block}
-use Rattle.model.specs.Laws.Fits.{fits_to}
-use Rattle.model.specs.Laws.Limits.{Limits, limits_to}
-use Rattle.model.specs.Laws.Cells.{interval_ends}
-use Rattle.model.specs.Laws.Clauses.{clauses_to}
-use Rattle.model.specs.Laws.Sound.{sound_within, listed_said}
-use Rattle.model.specs.Laws.Homes.{Stands, found}
-use Rattle.model.specs.Laws.Firsts.{shared_home, joined_top}
-use Rattle.model.specs.Laws.Ends.{column_free, fits_held, stands}
+use Rattle.model.proofs.Laws.Columns.{top_le}
+use Rattle.model.proofs.Laws.Tasks.{full_block}
+use Rattle.model.proofs.Laws.Fits.{fits_to}
+use Rattle.model.proofs.Laws.Limits.{Limits, limits_to}
+use Rattle.model.proofs.Laws.Cells.{interval_ends}
+use Rattle.model.proofs.Laws.Clauses.{clauses_to}
+use Rattle.model.proofs.Laws.Sound.{sound_within, listed_said}
+use Rattle.model.proofs.Laws.Homes.{Stands, found}
+use Rattle.model.proofs.Laws.Firsts.{shared_home, joined_top}
+use Rattle.model.proofs.Laws.Ends.{column_free, fits_held, stands}
 use Rattle.column.specs.Part.{listed_in, Part, holding}
 use Rattle.column.specs.Laws.Lent.{lent, lent_is, listed_lent}
 use Rattle.column.specs.Laws.Holding.{holding_holder}

@@ -12,7 +12,7 @@ use Rattle.runs.specs.Laws.Tests.{tests, cond_ind}
 use Rattle.runs.specs.Laws.Intervals.{named_ge, holds_of}
 use Rattle.model.specs.Homes.{holder}
 use Rattle.model.specs.Bounded.{In as Among}
-use Rattle.model.specs.Laws.Bounded.{and_to, and_of, clash, is_false}
+use Rattle.model.proofs.Laws.Bounded.{and_to, and_of, clash, is_false}
 use Rattle.column.specs.declared.Interval.{Interval as Read}
 use Rattle.column.specs.declared.Held.TheVariants.{In, Nowhere}
 use Rattle.column.specs.Part.{listed_from, listed_in, ReadAt, holding}

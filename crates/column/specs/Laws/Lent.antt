@@ -5,9 +5,9 @@ use Rattle.runs.specs.Intervals.{interval}
 use Rattle.model.specs.Limits.{max_columns, max_intervals, record_size, column_size, interval_size}
 use Rattle.model.specs.Record.{part, column_at, listed_intervals}
 use Rattle.model.specs.Sound.{count_of}
-use Rattle.model.specs.Laws.Parts.{length_part, get_d_list}
-use Rattle.model.specs.Laws.ColumnPart.{word_part}
-use Rattle.model.specs.Laws.WriteBack.{said, count_listed}
+use Rattle.model.proofs.Laws.Parts.{length_part, get_d_list}
+use Rattle.model.proofs.Laws.ColumnPart.{word_part}
+use Rattle.model.proofs.Laws.WriteBack.{said, count_listed}
 use Rattle.column.specs.Part.{interval_at, listed_in, Part}
 use Rattle.column.specs.Laws.Part.{listed_is}
 

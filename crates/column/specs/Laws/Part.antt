@@ -4,8 +4,8 @@ use Rattle.std.proofs.Common.{ap, ap₂, ◌∙◌, inl, inr, arith, zero-add}
 use Rattle.runs.specs.Intervals.{Interval, interval, Named, Apart, Free, unite}
 use Rattle.model.specs.Limits.{max_intervals, words}
 use Rattle.model.specs.Record.{column_part}
-use Rattle.model.specs.Laws.Record.{length_column}
-use Rattle.model.specs.Laws.ColumnPart.{interval_bottom, interval_top}
+use Rattle.model.proofs.Laws.Record.{length_column}
+use Rattle.model.proofs.Laws.ColumnPart.{interval_bottom, interval_top}
 use Rattle.column.specs.Part.{interval_at, listed_from, listed_in, Part, Room, Joinable}
 
 -- ---- small bounds

@@ -12,8 +12,8 @@ use Rattle.runs.specs.Laws.Intervals.{named_ge, holds_of}
 use Rattle.model.specs.Limits.{interval_size}
 use Rattle.model.specs.Tasks.{word}
 use Rattle.model.specs.Homes.{holder}
-use Rattle.model.specs.Laws.Homes.{in_bounds}
-use Rattle.model.specs.Laws.ReadBack.{get_d_in}
+use Rattle.model.proofs.Laws.Homes.{in_bounds}
+use Rattle.model.proofs.Laws.ReadBack.{get_d_in}
 use Rattle.column.specs.declared.Interval.{Interval as Read}
 use Rattle.column.specs.Part.{interval_at, listed_from, listed_in, ReadAt, first_reaching}
 

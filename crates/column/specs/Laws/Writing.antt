@@ -8,10 +8,10 @@ use Rattle.runs.specs.Laws.Streaming.{piece_some, piece_none, piece_append, unit
 use Rattle.model.specs.Limits.{max_intervals, column_size, interval_size, words}
 use Rattle.model.specs.Record.{bytes16, interval_bytes, column_part}
 use Rattle.model.specs.Parts.{splice}
-use Rattle.model.specs.Laws.Parts.{splice_more}
-use Rattle.model.specs.Laws.Record.{length_column}
-use Rattle.model.specs.Laws.Slots.{slots_nil}
-use Rattle.model.specs.Laws.ColumnPart.{column_push}
+use Rattle.model.proofs.Laws.Parts.{splice_more}
+use Rattle.model.proofs.Laws.Record.{length_column}
+use Rattle.model.proofs.Laws.Slots.{slots_nil}
+use Rattle.model.proofs.Laws.ColumnPart.{column_push}
 use Rattle.column.specs.declared.Interval.{Interval as Read}
 use Rattle.column.specs.declared.Joining.{Joining}
 use Rattle.column.specs.Part.{listed_from, listed_in, ReadAt, Holding, Wrote, Changed, Joinable, sent, carried, merged, Absorbed}

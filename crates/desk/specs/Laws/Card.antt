@@ -7,8 +7,8 @@ use Rattle.model.specs.Record.{record_of, device_of, book_of}
 use Rattle.model.specs.Sound.{within}
 use Rattle.model.specs.Calls.{Call, on_book}
 use Rattle.model.specs.OnRecord.{written, on_record}
-use Rattle.model.specs.Laws.Step.{same_step}
-use Rattle.model.specs.Laws.ReadBack.{device_of_record, book_of_record}
+use Rattle.model.proofs.Laws.Step.{same_step}
+use Rattle.model.proofs.Laws.ReadBack.{device_of_record, book_of_record}
 use Rattle.desk.specs.Desk.{Card}
 
 -- the record of a device and a book within the limits is a card

@@ -9,9 +9,9 @@ use Rattle.model.specs.Sheet.{first_names, second_names, device_line}
 use Rattle.model.specs.Record.{record_of}
 use Rattle.model.specs.Calls.{Outcome}
 use Rattle.model.specs.Program.{lines, longer, same_line, says, with_device, first, second, third, on_lines}
-use Rattle.model.specs.Laws.Bounded.{and_to, is_false}
-use Rattle.model.specs.Laws.OnRecord.{new_done, new_bad_device}
-use Rattle.model.specs.Laws.Kept.{within_new}
+use Rattle.model.proofs.Laws.Bounded.{and_to, is_false}
+use Rattle.model.proofs.Laws.OnRecord.{new_done, new_bad_device}
+use Rattle.model.proofs.Laws.Kept.{within_new}
 use Rattle.model.specs.Columns.{Device, device_ok}
 use Rattle.model.specs.OnRecord.{new}
 use Rattle.line.specs.Fields.{until}

@@ -15,8 +15,8 @@ use Rattle.model.specs.OnRecord.{written, on_record}
 use Rattle.model.specs.Sheet.{empty_draft, list_draft, choose_draft, sheet_line}
 use Rattle.model.specs.Program.{Desk, Left, says, block_bytes, answered, listed, on_call, on_line}
 use Rattle.model.specs.Parts.{splice}
-use Rattle.model.specs.Laws.Parts.{length_splice}
-use Rattle.model.specs.Laws.Kept.{kept}
+use Rattle.model.proofs.Laws.Parts.{length_splice}
+use Rattle.model.proofs.Laws.Kept.{kept}
 use Rattle.line.specs.Block.{call_bytes}
 use Rattle.line.specs.Calls.{call_said, answer_of, Says}
 use Rattle.line.specs.declared.call.BlockCall.{BlockCall}

@@ -19,8 +19,8 @@ use Rattle.model.specs.Calls.{list, Outcome, refuse, refused, refusals, no_posit
 use Rattle.model.specs.OnRecord.{written, on_record}
 use Rattle.model.specs.Sheet.{list_draft}
 use Rattle.model.specs.Program.{says, shows, listed, on_call}
-use Rattle.model.specs.Laws.Listing.{join_append}
-use Rattle.model.specs.Laws.RangeBytes.{read_ranges}
+use Rattle.model.proofs.Laws.Listing.{join_append}
+use Rattle.model.proofs.Laws.RangeBytes.{read_ranges}
 use Rattle.desk.specs.Desk.{desk_of, Card, range_at, range_line}
 use Rattle.desk.specs.Laws.Card.{on_card}
 

@@ -12,8 +12,8 @@ use Rattle.model.specs.Sound.{within}
 use Rattle.model.specs.Calls.{list, choose, place, release, on_book}
 use Rattle.model.specs.Sheet.{SheetCall, add_block, empty_draft, list_draft, choose_draft, place_draft, release_task, sheet_line}
 use Rattle.model.specs.Program.{Desk, Left, says, block_bytes, listed, redraft, on_call, on_read, on_line, on_lines, first, lines, program}
-use Rattle.model.specs.Laws.Kept.{within_new, kept}
-use Rattle.model.specs.Laws.ReadBack.{device_of_record, book_of_record}
+use Rattle.model.proofs.Laws.Kept.{within_new, kept}
+use Rattle.model.proofs.Laws.ReadBack.{device_of_record, book_of_record}
 use Rattle.line.specs.Print.{Printed, names_line}
 use Rattle.line.specs.Laws.Print.{printed_more}
 use Rattle.desk.specs.declared.input.Begun.{Begun}

@@ -1,7 +1,7 @@
 -- What was printed from the first byte on, and a block added to the draft. Assumes nothing.
 use Rattle.std.specs.Prelude.{ℕ, ◌≡◌, refl, List, [], ℤ, length, drop}
 use Rattle.std.proofs.Common.{sym, arith, length-append, take_at}
-use Rattle.model.specs.Laws.Parts.{splice_none}
+use Rattle.model.proofs.Laws.Parts.{splice_none}
 use Rattle.model.specs.Bounded.{join_in}
 use Rattle.model.specs.Program.{shows}
 use Rattle.model.specs.Calls.{ranges_in}

@@ -7,8 +7,8 @@ use Rattle.sets.specs.Forest.{Alone, merges}
 use Rattle.model.specs.Columns.{Device, columns, kind, cells}
 use Rattle.model.specs.Book.{Book, cell_free}
 use Rattle.model.specs.Fragments.{Cell, heights, free_cells, connected_sets}
-use Rattle.model.specs.Laws.Columns.{height_pos}
-use Rattle.model.specs.Laws.Fragments.{free_on, free_cells_are, free_cells_distinct}
+use Rattle.model.proofs.Laws.Columns.{height_pos}
+use Rattle.model.proofs.Laws.Fragments.{free_on, free_cells_are, free_cells_distinct}
 use Rattle.fragments.specs.Nodes.{free_runs, base, card_edges}
 use Rattle.fragments.specs.Laws.Grid.{card_count}
 

@@ -14,8 +14,8 @@ use Rattle.sets.specs.Laws.Joined.{joined_refl, joined_step, joined_trans, joine
 use Rattle.sets.specs.Laws.Groups.{Grouped}
 use Rattle.sets.specs.Laws.Count.{sets_count}
 use Rattle.model.specs.Fragments.{Cell, cell, touch}
-use Rattle.model.specs.Laws.Fragments.{Neighbours, Overlap, Across, touch_to, touch_of, touch_both}
-use Rattle.model.specs.Laws.Members.{in_join_to, in_join_of}
+use Rattle.model.proofs.Laws.Fragments.{Neighbours, Overlap, Across, touch_to, touch_of, touch_both}
+use Rattle.model.proofs.Laws.Members.{in_join_to, in_join_of}
 use Rattle.fragments.specs.Sweep.{Shares, edge, edges}
 use Rattle.fragments.specs.Nodes.{base, run_at, half_rows_at, beside, card_edges}
 use Rattle.fragments.specs.Laws.Indexed.{Within, named_place, place_named, place_low, place_rises, one_place, base_below, base_unique, base_find}

@@ -12,7 +12,7 @@ use Rattle.std.proofs.lemmas.List.{length-replicate}
 use borrow.Author.Tests.{ltb-true, lt-ltb, le-ltb, le-leb, lt-leb, leb-true, leb-false}
 use Rattle.runs.specs.Laws.Tests.{cond_ind, lt_or_ge}
 use Rattle.runs.specs.Intervals.{Interval}
-use Rattle.model.specs.Laws.Bounded.{and_to}
+use Rattle.model.proofs.Laws.Bounded.{and_to}
 use Rattle.sets.specs.Graph.{In}
 use Rattle.sets.specs.Forest.{Falls, at, unions, merges, union, root, Below, Joins}
 use Rattle.sets.specs.Laws.Lists.{in_right, each_append}
@@ -148,6 +148,7 @@ below_if : (m : ℕ) (t : Bool) (e : ℕ × ℕ) → (e.0 < m) × (e.1 < m) → 
 unfolding edge_if
 below_if m true e h d (inl k) = rw k h
 below_if m false e h d k = absurd k
+below_if m true e h d (inr x'') = elim x'' [ ]
 
 -- ---- the loop
 

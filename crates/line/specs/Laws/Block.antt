@@ -13,7 +13,7 @@ use Rattle.model.specs.Kinds.{number_of}
 use Rattle.model.specs.Record.{bytes16}
 use Rattle.model.specs.Program.{block_bytes}
 use Rattle.model.specs.Parts.{splice}
-use Rattle.model.specs.Laws.Parts.{part_splice, get_d_part, set_two, splice_more}
+use Rattle.model.proofs.Laws.Parts.{part_splice, get_d_part, set_two, splice_more}
 use Rattle.line.specs.Block.{call_bytes}
 use Rattle.line.specs.declared.call.BlockCall.{BlockCall}
 

@@ -7,7 +7,7 @@ use Rattle.std.specs.Int.Signed.{mag, lt_z}
 use Rattle.runs.specs.Laws.Tests.{lt_or_ge}
 use Rattle.model.specs.Sheet.{text, digits, shown, output_line}
 use Rattle.model.specs.Parts.{splice}
-use Rattle.model.specs.Laws.Parts.{set_splice, splice_more}
+use Rattle.model.proofs.Laws.Parts.{set_splice, splice_more}
 use Rattle.line.specs.Print.{Printed}
 
 -- ---- digits

@@ -5,7 +5,7 @@ use Rattle.std.proofs.Math.Option.{some}
 use Rattle.std.proofs.Math.ListN.{get_or-append}
 use Rattle.runs.specs.Laws.Tests.{lt_or_ge}
 use Rattle.model.specs.Bounded.{all_in}
-use Rattle.model.specs.Laws.Bounded.{and_to, and_of}
+use Rattle.model.proofs.Laws.Bounded.{and_to, and_of}
 use Rattle.model.specs.Sheet.{digit, decimal, natural, negated, number, digits, shown}
 use Rattle.line.specs.Laws.Print.{tens, step_small, step_last}
 

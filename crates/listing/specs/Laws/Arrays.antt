@@ -20,7 +20,7 @@ use Rattle.runs.specs.Laws.Streaming.{push_join, push_apart}
 use Rattle.runs.specs.Laws.Canon.{count_above, from_least}
 use Rattle.runs.specs.Laws.Places.{run_at, run_named}
 use Rattle.model.specs.Limits.{max_rows}
-use Rattle.model.specs.Laws.Bounded.{map_append}
+use Rattle.model.proofs.Laws.Bounded.{map_append}
 use Rattle.listing.specs.Bottoms.{lift, lowered}
 use Rattle.listing.specs.Arrays.{max_runs, read, Room, Pushable, Joined}
 

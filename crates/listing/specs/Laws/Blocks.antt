@@ -17,13 +17,13 @@ use Rattle.model.specs.Tasks.{blocks, block, step, well_formed}
 use Rattle.model.specs.Book.{Book, free, block_fits, fits, intervals}
 use Rattle.model.specs.Sound.{within}
 use Rattle.model.specs.Blocks.{Common}
-use Rattle.model.specs.Laws.Bounded.{all_to, all_of}
-use Rattle.model.specs.Laws.Columns.{height_pos}
-use Rattle.model.specs.Laws.Tasks.{solid_block, first_block}
-use Rattle.model.specs.Laws.Fits.{fitting_to, fits_to, fits_below}
-use Rattle.model.specs.Laws.Steps.{common_step, common_bounds, step_bounds, block_apart, fits_steps}
-use Rattle.model.specs.Laws.Limits.{limits_to}
-use Rattle.model.specs.Laws.Cells.{intervals_grid}
+use Rattle.model.proofs.Laws.Bounded.{all_to, all_of}
+use Rattle.model.proofs.Laws.Columns.{height_pos}
+use Rattle.model.proofs.Laws.Tasks.{solid_block, first_block}
+use Rattle.model.proofs.Laws.Fits.{fitting_to, fits_to, fits_below}
+use Rattle.model.proofs.Laws.Steps.{common_step, common_bounds, step_bounds, block_apart, fits_steps}
+use Rattle.model.proofs.Laws.Limits.{limits_to}
+use Rattle.model.proofs.Laws.Cells.{intervals_grid}
 use Rattle.listing.specs.Bottoms.{lift, lowered, bottoms, Stand, Standing}
 use Rattle.listing.specs.Laws.Bottoms.{bottoms_to, bottoms_of, whole_cells, fits_stood, stood_fits}
 
@@ -111,6 +111,7 @@ module _ (d : Device) (b : Book) (t : List ℕ) (p : ℕ) where
       to y (inl (u, l)) pos =
           let q = div-add-mod' (2 * max_rows - 1) h in
           record { low = omega arith; high = omega arith; grid = (u.0, omega (arith, ap (λ (x : ℕ). u.0 * x) (sym e))); fits = λ i r. absurd (omega arith) }
+      to y (inr x'') pos = elim x'' [ ]
 
   -- one block more
   module _ (w : within d b ≡ true) (f : well_formed t ≡ true) (k : ℕ) (l : k < blocks t)

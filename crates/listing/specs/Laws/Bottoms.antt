@@ -16,8 +16,8 @@ use Rattle.model.specs.Columns.{Device, height, columns, kind, top}
 use Rattle.model.specs.Tasks.{Block}
 use Rattle.model.specs.Book.{Book, block_fits, intervals}
 use Rattle.model.specs.Blocks.{Solid}
-use Rattle.model.specs.Laws.Fits.{fitting_to, fitting_of}
-use Rattle.model.specs.Laws.Ends.{fits_held, held_fits}
+use Rattle.model.proofs.Laws.Fits.{fitting_to, fitting_of}
+use Rattle.model.proofs.Laws.Ends.{fits_held, held_fits}
 use Rattle.listing.specs.Bottoms.{lift, bottoms_in, bottoms}
 
 -- ---- the list of ranges, one interval after the other

@@ -6,7 +6,7 @@ use Rattle.std.proofs.Math.ListN.{get_or}
 use Rattle.runs.specs.Runs.{Mem}
 use Rattle.runs.specs.Intervals.{Interval, interval}
 use Rattle.runs.specs.Meet.{Step, Lcm}
-use Rattle.model.specs.Laws.Bounded.{last_or}
+use Rattle.model.proofs.Laws.Bounded.{last_or}
 use Rattle.model.specs.Kinds.{number_of}
 use Rattle.model.specs.Limits.{block_size, max_blocks, max_kind, max_columns, max_rows, columns_at, kinds_at}
 use Rattle.model.specs.Columns.{columns, kind, height}
@@ -15,15 +15,15 @@ use Rattle.model.specs.Tasks as model
 use Rattle.model.specs.Book.{intervals}
 use Rattle.model.specs.Record.{device_of, book_of, listed_intervals}
 use Rattle.model.specs.Sound.{sound, count_of}
-use Rattle.model.specs.Laws.Columns.{top_le}
-use Rattle.model.specs.Laws.Tasks.{sized_to, solid_block}
-use Rattle.model.specs.Laws.Limits.{limits_to}
-use Rattle.model.specs.Laws.Cells.{interval_ends}
-use Rattle.model.specs.Laws.Parts.{get_d_list}
-use Rattle.model.specs.Laws.WriteBack.{count_listed}
-use Rattle.model.specs.Laws.Clauses.{clauses_to}
-use Rattle.model.specs.Laws.ReadBack.{get_d_in}
-use Rattle.model.specs.Laws.Sound.{columns_said, listed_said, sound_length, sound_within}
+use Rattle.model.proofs.Laws.Columns.{top_le}
+use Rattle.model.proofs.Laws.Tasks.{sized_to, solid_block}
+use Rattle.model.proofs.Laws.Limits.{limits_to}
+use Rattle.model.proofs.Laws.Cells.{interval_ends}
+use Rattle.model.proofs.Laws.Parts.{get_d_list}
+use Rattle.model.proofs.Laws.WriteBack.{count_listed}
+use Rattle.model.proofs.Laws.Clauses.{clauses_to}
+use Rattle.model.proofs.Laws.ReadBack.{get_d_in}
+use Rattle.model.proofs.Laws.Sound.{columns_said, listed_said, sound_length, sound_within}
 use Rattle.task.specs.Blocks.{seen, Same}
 use Rattle.task.specs.Laws.Blocks.{same_seen, block_ready as ready}
 use Rattle.task.specs.declared.Block.{Block}

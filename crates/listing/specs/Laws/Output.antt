@@ -18,14 +18,14 @@ use Rattle.model.specs.Listing.{Range, range_of, ranges}
 use Rattle.model.specs.Record.{bytes16, device_of, book_of}
 use Rattle.model.specs.Calls.{list, lent, range_bytes, over, no_position, refused, refusals, unless, on_book}
 use Rattle.model.specs.Parts.{splice}
-use Rattle.model.specs.Laws.Bounded.{true_or_false, is_false, map_append}
-use Rattle.model.specs.Laws.Parts.{splice_none, splice_more, length_splice, set_two}
-use Rattle.model.specs.Laws.Listing.{join_append}
-use Rattle.model.specs.Laws.Limits.{limits_to}
-use Rattle.model.specs.Laws.Step.{list_done}
-use Rattle.model.specs.Laws.Steps.{step_bounds, fits_steps}
-use Rattle.model.specs.Laws.NoPosition.{ranges_none_iff}
-use Rattle.model.specs.Laws.Sound.{sound_within}
+use Rattle.model.proofs.Laws.Bounded.{true_or_false, is_false, map_append}
+use Rattle.model.proofs.Laws.Parts.{splice_none, splice_more, length_splice, set_two}
+use Rattle.model.proofs.Laws.Listing.{join_append}
+use Rattle.model.proofs.Laws.Limits.{limits_to}
+use Rattle.model.proofs.Laws.Step.{list_done}
+use Rattle.model.proofs.Laws.Steps.{step_bounds, fits_steps}
+use Rattle.model.proofs.Laws.NoPosition.{ranges_none_iff}
+use Rattle.model.proofs.Laws.Sound.{sound_within}
 use Rattle.listing.specs.Arrays.{max_runs, read, Room}
 use Rattle.listing.specs.Columns.{Given, ranges_in, Ranged}
 use Rattle.listing.specs.Output.{Writable, AllWritable, column_bytes, ranges_below, Answers}

@@ -15,9 +15,9 @@ use Rattle.model.specs.Columns.{height}
 use Rattle.model.specs.Tasks as model
 use Rattle.model.specs.Record.{listed_intervals}
 use Rattle.model.specs.Sound.{count_of}
-use Rattle.model.specs.Laws.Columns.{height_two, height_ten}
-use Rattle.model.specs.Laws.Parts.{get_d_list}
-use Rattle.model.specs.Laws.WriteBack.{count_listed}
+use Rattle.model.proofs.Laws.Columns.{height_two, height_ten}
+use Rattle.model.proofs.Laws.Parts.{get_d_list}
+use Rattle.model.proofs.Laws.WriteBack.{count_listed}
 use Rattle.listing.specs.Bottoms.{lift, bottoms_in, range_in, bottoms}
 use Rattle.listing.specs.Arrays.{read, Room, Pushable, Puttable, Joined, bottom_at, top_at, Meetable, Met}
 use Rattle.listing.specs.Laws.Bottoms.{bottoms_none, bottoms_short, bottoms_tall, bottoms_from, bottoms_spaced}

@@ -5,7 +5,7 @@ use native.Mathlib.Omega.{arith}
 use borrow.Author.Rules.{rules}
 use borrow.Author.Tests.{not-true, not-false}
 use Rattle.model.specs.Tasks.{blocks}
-use Rattle.model.specs.Laws.Tasks.{sized_to, solid_block}
+use Rattle.model.proofs.Laws.Tasks.{sized_to, solid_block}
 use Rattle.task.specs.Laws.Blocks.{same_seen}
 use Rattle.marks.specs.Laws.Marks.{TaskMarking, blocks_start, blocks_refused, blocks_next, blocks_end}
 use Rattle.marks.proofs.mark_task.Statement.{statement}

@@ -14,17 +14,17 @@ use Rattle.model.specs.Columns.{columns, kind, cells, top, top_in, cells_in, hei
 use Rattle.model.specs.Tasks.{word, Block, blocks, block, well_formed}
 use Rattle.model.specs.Book.{Book, placed, held, free, block_fits, fits}
 use Rattle.model.specs.Record.{part, device_of}
-use Rattle.model.specs.Laws.Bounded.{all_to, all_of, is_false, same_test, true_or_false, clash}
-use Rattle.model.specs.Laws.Columns.{height_pos, height_two, top_le}
+use Rattle.model.proofs.Laws.Bounded.{all_to, all_of, is_false, same_test, true_or_false, clash}
+use Rattle.model.proofs.Laws.Columns.{height_pos, height_two, top_le}
 use Rattle.model.specs.Blocks.{Solid}
-use Rattle.model.specs.Laws.Fits.{Fitting, fitting_to, fitting_of}
-use Rattle.model.specs.Laws.Split.{free_to, free_of}
-use Rattle.model.specs.Laws.Limits.{Limits, limits_to}
-use Rattle.model.specs.Laws.Kept.{within_new}
-use Rattle.model.specs.Laws.ReadBack.{get_d_in}
-use Rattle.model.specs.Laws.Sound.{columns_said, kind_read}
+use Rattle.model.proofs.Laws.Fits.{Fitting, fitting_to, fitting_of}
+use Rattle.model.proofs.Laws.Split.{free_to, free_of}
+use Rattle.model.proofs.Laws.Limits.{Limits, limits_to}
+use Rattle.model.proofs.Laws.Kept.{within_new}
+use Rattle.model.proofs.Laws.ReadBack.{get_d_in}
+use Rattle.model.proofs.Laws.Sound.{columns_said, kind_read}
 use Rattle.model.specs.Parts.{splice}
-use Rattle.model.specs.Laws.Parts.{part_splice, part_splice_below, part_splice_above}
+use Rattle.model.proofs.Laws.Parts.{part_splice, part_splice_below, part_splice_above}
 use Rattle.cells.specs.Bits.{cell_bit, RunIn, Marked}
 use Rattle.cells.specs.Laws.Book.{Shown, held_with, BlockAt, shown_none, shown_mark, shown_free, earlier_apart}
 use Rattle.marks.specs.Marks.{column_words, all_words, words_of, Bitmap, BlockDue, BlockMarked, TaskMarked}

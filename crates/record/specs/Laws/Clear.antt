@@ -16,17 +16,17 @@ use Rattle.model.specs.Bounded.{any_in}
 use Rattle.model.specs.Record.{bytes16, interval_bytes, head_bytes, column_part, entry_part, record_of, column_at, entry_at}
 use Rattle.model.specs.Parts.{splice}
 use Rattle.model.specs.InPlace.{Reads, put_column}
-use Rattle.model.specs.Laws.Clauses.{Zero}
-use Rattle.model.specs.Laws.WriteBack.{zero_part}
-use Rattle.model.specs.Laws.Limits.{limits_to, kind_le}
-use Rattle.model.specs.Laws.Kept.{within_new}
-use Rattle.model.specs.Laws.Split.{free_of}
-use Rattle.model.specs.Laws.Changed.{upto, upto_none, upto_step, upto_out, upto_is}
-use Rattle.model.specs.Laws.Parts.{splice_same, splice_more, part_set_above, set_two}
-use Rattle.model.specs.Laws.Slots.{slot_out}
-use Rattle.model.specs.Laws.ColumnPart.{column_push}
-use Rattle.model.specs.Laws.Layout.{reads_kind, reads_head, reads_column, reads_count, reads_cong}
-use Rattle.model.specs.Laws.Record.{shows_image, length_column, column_part_nil, kind_out, intervals_out}
+use Rattle.model.proofs.Laws.Clauses.{Zero}
+use Rattle.model.proofs.Laws.WriteBack.{zero_part}
+use Rattle.model.proofs.Laws.Limits.{limits_to, kind_le}
+use Rattle.model.proofs.Laws.Kept.{within_new}
+use Rattle.model.proofs.Laws.Split.{free_of}
+use Rattle.model.proofs.Laws.Changed.{upto, upto_none, upto_step, upto_out, upto_is}
+use Rattle.model.proofs.Laws.Parts.{splice_same, splice_more, part_set_above, set_two}
+use Rattle.model.proofs.Laws.Slots.{slot_out}
+use Rattle.model.proofs.Laws.ColumnPart.{column_push}
+use Rattle.model.proofs.Laws.Layout.{reads_kind, reads_head, reads_column, reads_count, reads_cong}
+use Rattle.model.proofs.Laws.Record.{shows_image, length_column, column_part_nil, kind_out, intervals_out}
 use Rattle.record.specs.Clear.{Closed}
 
 -- ---- one column
@@ -69,6 +69,7 @@ new_free d c q =
   where
     only : (y : ℕ) → Named y (interval 0 (top d c) ∷ []) → y < top d c
     only y (inl h) = h.1
+    only y (mathlib.Core.Logic.inr x') = elim x' [ ]
 
 -- all cells of a column in one interval
 pub new_intervals : (d : Device) (c : ℕ) → c < columns d → intervals d [] c ≡ piece 0 (top d c) []

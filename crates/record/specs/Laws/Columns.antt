@@ -14,15 +14,15 @@ use Rattle.model.specs.Book.{Book, Placed, covers, free, fits, intervals}
 use Rattle.model.specs.Record.{part, column_at, image, record_of, device_of, book_of}
 use Rattle.model.specs.Sound.{within, sound}
 use Rattle.model.specs.InPlace.{put_column}
-use Rattle.model.specs.Laws.Bounded.{and3_to}
-use Rattle.model.specs.Laws.Columns.{height_two, top_le}
-use Rattle.model.specs.Laws.Tasks.{sized_to, solid_block}
-use Rattle.model.specs.Laws.Fits.{fits_to, fits_below}
-use Rattle.model.specs.Laws.Cells.{intervals_grid}
-use Rattle.model.specs.Laws.Changed.{changed, changed_same, changed_other}
-use Rattle.model.specs.Laws.Record.{image_shows, image_column, image_cong}
-use Rattle.model.specs.Laws.WriteBack.{Bytes}
-use Rattle.model.specs.Laws.Sound.{sound_record}
+use Rattle.model.proofs.Laws.Bounded.{and3_to}
+use Rattle.model.proofs.Laws.Columns.{height_two, top_le}
+use Rattle.model.proofs.Laws.Tasks.{sized_to, solid_block}
+use Rattle.model.proofs.Laws.Fits.{fits_to, fits_below}
+use Rattle.model.proofs.Laws.Cells.{intervals_grid}
+use Rattle.model.proofs.Laws.Changed.{changed, changed_same, changed_other}
+use Rattle.model.proofs.Laws.Record.{image_shows, image_column, image_cong}
+use Rattle.model.proofs.Laws.WriteBack.{Bytes}
+use Rattle.model.proofs.Laws.Sound.{sound_record}
 use Rattle.column.specs.Laws.Part.{Encodes, free_small}
 use Rattle.record.specs.Columns.{runs_of}
 

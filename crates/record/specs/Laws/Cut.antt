@@ -19,13 +19,13 @@ use Rattle.model.specs.Record.{part, column_at, device_of, book_of}
 use Rattle.model.specs.Calls.{insert}
 use Rattle.model.specs.Sound.{within, count_of, sound}
 use Rattle.model.specs.InPlace.{put_column}
-use Rattle.model.specs.Laws.Bounded.{and_to, same_test, is_false, clash}
-use Rattle.model.specs.Laws.Limits.{limits_to}
-use Rattle.model.specs.Laws.Cells.{block_grid}
-use Rattle.model.specs.Laws.Split.{neither}
-use Rattle.model.specs.Laws.Freed.{free_insert}
-use Rattle.model.specs.Laws.Record.{image_shows}
-use Rattle.model.specs.Laws.WriteBack.{Bytes}
+use Rattle.model.proofs.Laws.Bounded.{and_to, same_test, is_false, clash}
+use Rattle.model.proofs.Laws.Limits.{limits_to}
+use Rattle.model.proofs.Laws.Cells.{block_grid}
+use Rattle.model.proofs.Laws.Split.{neither}
+use Rattle.model.proofs.Laws.Freed.{free_insert}
+use Rattle.model.proofs.Laws.Record.{image_shows}
+use Rattle.model.proofs.Laws.WriteBack.{Bytes}
 use Rattle.column.specs.Part.{Room}
 use Rattle.column.specs.Laws.Part.{room_of}
 use Rattle.record.specs.Columns.{column_list, runs_of}

@@ -5,8 +5,8 @@ use borrow.Author.Tests.{le-leb, lt-leb}
 use Rattle.model.specs.Limits.{max_rows, max_columns, max_kind}
 use Rattle.model.specs.Bounded.{all_in}
 use Rattle.model.specs.Columns.{Device, columns, device_ok}
-use Rattle.model.specs.Laws.Bounded.{clash, is_false, all_in_to}
-use Rattle.model.specs.Laws.ReadBack.{get_d_in}
+use Rattle.model.proofs.Laws.Bounded.{clash, is_false, all_in_to}
+use Rattle.model.proofs.Laws.ReadBack.{get_d_in}
 
 -- the first i of the kinds are kinds
 abbrev pub Kinds : List ℕ → ℕ → Type 0

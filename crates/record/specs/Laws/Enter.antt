@@ -13,13 +13,13 @@ use Rattle.model.specs.Record.{part, column_at, record_of, device_of, book_of}
 use Rattle.model.specs.Calls.{insert}
 use Rattle.model.specs.Sound.{count_of, number_ok}
 use Rattle.model.specs.InPlace.{put_column, place}
-use Rattle.model.specs.Laws.Bounded.{and_to}
-use Rattle.model.specs.Laws.Tasks.{sized_to}
-use Rattle.model.specs.Laws.Fits.{fits_below}
-use Rattle.model.specs.Laws.Limits.{Limits, limits_to}
-use Rattle.model.specs.Laws.Record.{Shows, image_shows, image_cong, shows_image, running_read}
-use Rattle.model.specs.Laws.Entries.{place_le}
-use Rattle.model.specs.Laws.Sound.{sound_within}
+use Rattle.model.proofs.Laws.Bounded.{and_to}
+use Rattle.model.proofs.Laws.Tasks.{sized_to}
+use Rattle.model.proofs.Laws.Fits.{fits_below}
+use Rattle.model.proofs.Laws.Limits.{Limits, limits_to}
+use Rattle.model.proofs.Laws.Record.{Shows, image_shows, image_cong, shows_image, running_read}
+use Rattle.model.proofs.Laws.Entries.{place_le}
+use Rattle.model.proofs.Laws.Sound.{sound_within}
 use Rattle.task.specs.declared.Block.{Block as Read}
 use Rattle.task.specs.Blocks.{Same}
 use Rattle.column.specs.Part.{Room}

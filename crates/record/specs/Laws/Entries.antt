@@ -10,11 +10,11 @@ use Rattle.model.specs.Calls.{without, runs_in}
 use Rattle.model.specs.Record.{entry_at, device_of, book_of}
 use Rattle.model.specs.Sound.{sound}
 use Rattle.model.specs.InPlace.{no_entry, place}
-use Rattle.model.specs.Laws.Bounded.{any_in_none, any_in_of}
-use Rattle.model.specs.Laws.Limits.{Rising, rising_above, limits_to}
-use Rattle.model.specs.Laws.ReadBack.{get_d_in}
-use Rattle.model.specs.Laws.Entries.{without_none}
-use Rattle.model.specs.Laws.Sound.{running_said, sound_within}
+use Rattle.model.proofs.Laws.Bounded.{any_in_none, any_in_of}
+use Rattle.model.proofs.Laws.Limits.{Rising, rising_above, limits_to}
+use Rattle.model.proofs.Laws.ReadBack.{get_d_in}
+use Rattle.model.proofs.Laws.Entries.{without_none}
+use Rattle.model.proofs.Laws.Sound.{running_said, sound_within}
 use Rattle.record.specs.declared.entries.Found.TheVariants.{At, Nowhere}
 use Rattle.record.specs.Entries.{Finds}
 use Rattle.record.specs.Laws.Said.{number_said}

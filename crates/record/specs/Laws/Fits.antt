@@ -10,13 +10,13 @@ use Rattle.model.specs.Tasks.{Block, blocks, block, sized, well_formed}
 use Rattle.model.specs.Book.{intervals, block_fits, fits}
 use Rattle.model.specs.Record.{device_of, book_of, listed_intervals}
 use Rattle.model.specs.Sound.{count_of, sound}
-use Rattle.model.specs.Laws.Bounded.{clash, is_false, same_test, true_or_false, last_or}
-use Rattle.model.specs.Laws.Tasks.{sized_to, solid_block}
-use Rattle.model.specs.Laws.Fits.{Fitting, fitting_to, fitting_of, fits_to, fits_of, fits_below}
-use Rattle.model.specs.Laws.Limits.{limits_to}
-use Rattle.model.specs.Laws.Ends.{fits_held, held_fits}
-use Rattle.model.specs.Laws.Clauses.{clauses_to}
-use Rattle.model.specs.Laws.Sound.{columns_said, kind_read, listed_said, sound_length, sound_within}
+use Rattle.model.proofs.Laws.Bounded.{clash, is_false, same_test, true_or_false, last_or}
+use Rattle.model.proofs.Laws.Tasks.{sized_to, solid_block}
+use Rattle.model.proofs.Laws.Fits.{Fitting, fitting_to, fitting_of, fits_to, fits_of, fits_below}
+use Rattle.model.proofs.Laws.Limits.{limits_to}
+use Rattle.model.proofs.Laws.Ends.{fits_held, held_fits}
+use Rattle.model.proofs.Laws.Clauses.{clauses_to}
+use Rattle.model.proofs.Laws.Sound.{columns_said, kind_read, listed_said, sound_length, sound_within}
 use Rattle.column.specs.Part.{Part, listed_in, holding}
 use Rattle.column.specs.Laws.Lent.{lent, lent_is, listed_lent}
 use Rattle.column.specs.Laws.Holding.{holding_in, holder_holds, holding_out}

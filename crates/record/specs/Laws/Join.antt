@@ -18,12 +18,12 @@ use Rattle.model.specs.Record.{part, column_at, device_of, book_of}
 use Rattle.model.specs.Calls.{without}
 use Rattle.model.specs.Sound.{within, count_of, sound}
 use Rattle.model.specs.InPlace.{put_column}
-use Rattle.model.specs.Laws.Bounded.{or_to, or_of, same_test}
-use Rattle.model.specs.Laws.Fits.{fits_to}
-use Rattle.model.specs.Laws.Limits.{Entry, limits_to}
-use Rattle.model.specs.Laws.Cells.{block_grid}
-use Rattle.model.specs.Laws.Freed.{free_without}
-use Rattle.model.specs.Laws.WriteBack.{Bytes}
+use Rattle.model.proofs.Laws.Bounded.{or_to, or_of, same_test}
+use Rattle.model.proofs.Laws.Fits.{fits_to}
+use Rattle.model.proofs.Laws.Limits.{Entry, limits_to}
+use Rattle.model.proofs.Laws.Cells.{block_grid}
+use Rattle.model.proofs.Laws.Freed.{free_without}
+use Rattle.model.proofs.Laws.WriteBack.{Bytes}
 use Rattle.column.specs.Part.{Joinable}
 use Rattle.column.specs.Laws.Part.{joinable_of}
 use Rattle.record.specs.Columns.{column_list, runs_of}

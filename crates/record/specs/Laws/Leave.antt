@@ -14,14 +14,14 @@ use Rattle.model.specs.Calls.{without, runs_in}
 use Rattle.model.specs.Sound.{sound, count_of, block_count}
 use Rattle.model.specs.Bounded.{In}
 use Rattle.model.specs.InPlace.{put_column, no_entry}
-use Rattle.model.specs.Laws.Bounded.{clash}
-use Rattle.model.specs.Laws.Limits.{limits_to}
-use Rattle.model.specs.Laws.Parts.{part_part}
-use Rattle.model.specs.Laws.Clauses.{clauses_to}
-use Rattle.model.specs.Laws.Record.{Shows, image_shows, image_cong, shows_image, record_shows, running_read}
-use Rattle.model.specs.Laws.WriteBack.{Bytes}
-use Rattle.model.specs.Laws.ReadBack.{get_d_in}
-use Rattle.model.specs.Laws.Sound.{running_said, sound_length, sound_within, sound_record}
+use Rattle.model.proofs.Laws.Bounded.{clash}
+use Rattle.model.proofs.Laws.Limits.{limits_to}
+use Rattle.model.proofs.Laws.Parts.{part_part}
+use Rattle.model.proofs.Laws.Clauses.{clauses_to}
+use Rattle.model.proofs.Laws.Record.{Shows, image_shows, image_cong, shows_image, record_shows, running_read}
+use Rattle.model.proofs.Laws.WriteBack.{Bytes}
+use Rattle.model.proofs.Laws.ReadBack.{get_d_in}
+use Rattle.model.proofs.Laws.Sound.{running_said, sound_length, sound_within, sound_record}
 use Rattle.task.specs.declared.Block.{Block as Read}
 use Rattle.task.specs.Blocks.{Same}
 use Rattle.column.specs.Part.{Joinable}

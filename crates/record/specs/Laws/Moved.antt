@@ -10,13 +10,13 @@ use Rattle.model.specs.Book.{Running, Book}
 use Rattle.model.specs.Calls.{insert}
 use Rattle.model.specs.Record.{bytes16, padded, part, entry_bytes, entry_at}
 use Rattle.model.specs.Parts.{splice, raised, lowered}
-use Rattle.model.specs.Laws.Tasks.{sized_to}
-use Rattle.model.specs.Laws.Changed.{changed, changed_same, changed_other}
-use Rattle.model.specs.Laws.Parts.{splice_more, set_splice, length_splice, length_part}
-use Rattle.model.specs.Laws.Slots.{raised_low, raised_in, raised_high, lowered_low, lowered_in, lowered_high, padded_is, length_padded}
-use Rattle.model.specs.Laws.Layout.{reads_entry, reads_cong}
-use Rattle.model.specs.Laws.Record.{running_read}
-use Rattle.model.specs.Laws.Entries.{entry_insert, entry_remove, reads_book, length_insert}
+use Rattle.model.proofs.Laws.Tasks.{sized_to}
+use Rattle.model.proofs.Laws.Changed.{changed, changed_same, changed_other}
+use Rattle.model.proofs.Laws.Parts.{splice_more, set_splice, length_splice, length_part}
+use Rattle.model.proofs.Laws.Slots.{raised_low, raised_in, raised_high, lowered_low, lowered_in, lowered_high, padded_is, length_padded}
+use Rattle.model.proofs.Laws.Layout.{reads_entry, reads_cong}
+use Rattle.model.proofs.Laws.Record.{running_read}
+use Rattle.model.proofs.Laws.Entries.{entry_insert, entry_remove, reads_book, length_insert}
 use Rattle.record.specs.Entries.{Moved, Entered, Removed}
 
 -- ---- entries moved by one place

@@ -17,15 +17,15 @@ use Rattle.model.specs.Sound.{number_ok, block_count, sound}
 use Rattle.model.specs.Calls.{insert}
 use Rattle.model.specs.Bounded.{In}
 use Rattle.model.specs.InPlace.{no_entry}
-use Rattle.model.specs.Laws.Bounded.{clash, is_false, same_test, true_or_false}
-use Rattle.model.specs.Laws.Limits.{Entry, limits_to, within_device}
-use Rattle.model.specs.Laws.Split.{fits_split}
-use Rattle.model.specs.Laws.Kept.{within_new, insert_within}
-use Rattle.model.specs.Laws.Parts.{list_parts}
-use Rattle.model.specs.Laws.Clauses.{clauses_to}
-use Rattle.model.specs.Laws.WriteBack.{Bytes}
-use Rattle.model.specs.Laws.ReadBack.{get_d_in, device_of_record, book_of_record}
-use Rattle.model.specs.Laws.Sound.{running_said, record_sound, sound_length, sound_within, sound_record}
+use Rattle.model.proofs.Laws.Bounded.{clash, is_false, same_test, true_or_false}
+use Rattle.model.proofs.Laws.Limits.{Entry, limits_to, within_device}
+use Rattle.model.proofs.Laws.Split.{fits_split}
+use Rattle.model.proofs.Laws.Kept.{within_new, insert_within}
+use Rattle.model.proofs.Laws.Parts.{list_parts}
+use Rattle.model.proofs.Laws.Clauses.{clauses_to}
+use Rattle.model.proofs.Laws.WriteBack.{Bytes}
+use Rattle.model.proofs.Laws.ReadBack.{get_d_in, device_of_record, book_of_record}
+use Rattle.model.proofs.Laws.Sound.{running_said, record_sound, sound_length, sound_within, sound_record}
 use Rattle.words.specs.Words.{Same}
 use Rattle.record.specs.Entries.{entry_of, blocks_of, bytes_entry, HasEntry}
 use Rattle.record.specs.Rebuild.{prior, Passes, Ready, Tried, Rebuilt, Step}

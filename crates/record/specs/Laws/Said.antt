@@ -8,9 +8,9 @@ use Rattle.model.specs.Book.{Running}
 use Rattle.model.specs.Record.{part, entry_at, running_of, book_of}
 use Rattle.model.specs.Sound.{block_count}
 use Rattle.model.specs.InPlace.{no_entry}
-use Rattle.model.specs.Laws.Parts.{get_d_part, part_part, get_d_list, length_part}
-use Rattle.model.specs.Laws.ColumnPart.{word_part}
-use Rattle.model.specs.Laws.Sound.{running_said}
+use Rattle.model.proofs.Laws.Parts.{get_d_part, part_part, get_d_list, length_part}
+use Rattle.model.proofs.Laws.ColumnPart.{word_part}
+use Rattle.model.proofs.Laws.Sound.{running_said}
 use Rattle.record.specs.Entries.{entry_of, blocks_of, bytes_entry, HasEntry}
 
 -- running task j is what its bytes say

@@ -9,7 +9,7 @@ use Rattle.model.specs.Book.{Book, Placed, free}
 use Rattle.model.specs.Record.{part, column_at, image}
 use Rattle.model.specs.Sound.{within, count_of}
 use Rattle.model.specs.InPlace.{put_column}
-use Rattle.model.specs.Laws.Limits.{limits_to}
+use Rattle.model.proofs.Laws.Limits.{limits_to}
 use Rattle.column.specs.Laws.Part.{Encodes, encodes}
 use Rattle.record.specs.Columns.{column_list, runs_of}
 use Rattle.record.specs.Laws.Columns.{runs_same, Gridded, free_gridded, few_runs, encoded, column_changed}

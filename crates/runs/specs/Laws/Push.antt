@@ -52,6 +52,7 @@ module _ (s y : ℕ) (r : Run) (t : Steps s r.first r.last) where
   pub push_to : (m : ℕ) (L : List Run) → From s m L → Mem s y (push s r L) → Mem s y L ⊎ In s y r
   unfolding push
   push_to m [] c (inl h) = inr h
+  push_to m [] c (inr h) = elim h [ ]
   push_to m (q ∷ []) c h = cond_ind (λ K. Mem s y K → Mem s y (q ∷ []) ⊎ In s y r) (eqb (q.last + s) r.first) joined apart h
     where
       sum : In s y q ⊎ In s y r → Mem s y (q ∷ []) ⊎ In s y r
@@ -60,25 +61,30 @@ module _ (s y : ℕ) (r : Run) (t : Steps s r.first r.last) where
 
       joined : eqb (q.last + s) r.first ≡ true → Mem s y (run q.first r.last ∷ []) → Mem s y (q ∷ []) ⊎ In s y r
       joined e (inl k) = sum (join_to s y q r (omega tests) c.1 t k)
+      joined e (inr k) = elim k [ ]
 
       apart : eqb (q.last + s) r.first ≡ false → Mem s y (q ∷ r ∷ []) → Mem s y (q ∷ []) ⊎ In s y r
       apart e (inl k) = inl (inl k)
       apart e (inr (inl k)) = inr k
+      apart e (inr (inr x6)) = elim x6 [ ]
   push_to m (q ∷ p ∷ L) c (inl h) = inl (inl h)
   push_to m (q ∷ p ∷ L) c (inr h) = in_front q (p ∷ L) (push_to (q.last + 2 * s) (p ∷ L) c.2 h)
 
   pub push_of : (m : ℕ) (L : List Run) → From s m L → Mem s y L ⊎ In s y r → Mem s y (push s r L)
   unfolding push
+  push_of m [] c (inl h) = elim h [ ]
   push_of m [] c (inr h) = inl h
   push_of m (q ∷ []) c h = cond_ind (λ K. Mem s y K) (eqb (q.last + s) r.first) (λ e. inl (join_of s y q r (omega tests) c.1 t (sum h))) (λ e. apart h)
     where
       sum : Mem s y (q ∷ []) ⊎ In s y r → In s y q ⊎ In s y r
       sum (inl (inl k)) = inl k
+      sum (inl (inr k)) = elim k [ ]
       sum (inr k) = inr k
 
       apart : Mem s y (q ∷ []) ⊎ In s y r → Mem s y (q ∷ r ∷ [])
       apart (inl (inl k)) = inl k
       apart (inr k) = inr (inl k)
+      apart (inl (inr x6)) = elim x6 [ ]
   push_of m (q ∷ p ∷ L) c (inl (inl h)) = inl h
   push_of m (q ∷ p ∷ L) c (inl (inr h)) = inr (push_of (q.last + 2 * s) (p ∷ L) c.2 (inl h))
   push_of m (q ∷ p ∷ L) c (inr h) = inr (push_of (q.last + 2 * s) (p ∷ L) c.2 (inr h))

@@ -4,7 +4,7 @@ use mathlib.Core.Path.{sym}
 use native.Mathlib.Omega.{arith}
 use borrow.Author.Rules.{rules}
 use Rattle.model.specs.Limits.{max_columns}
-use Rattle.model.specs.Laws.Record.{column_part_nil}
+use Rattle.model.proofs.Laws.Record.{column_part_nil}
 use Rattle.marks.specs.Laws.Marks.{few_columns}
 use Rattle.soundness.specs.Laws.Columns.{column_right, column_refused}
 use Rattle.soundness.proofs.column_ok.Statement.{statement}

@@ -8,8 +8,8 @@ use Rattle.model.specs.Limits.{max_columns, kinds_at}
 use Rattle.model.specs.Columns.{kind}
 use Rattle.model.specs.Kinds.{number_of}
 use Rattle.model.specs.Record.{device_of}
-use Rattle.model.specs.Laws.Kinds.{kind_known, kind_unknown}
-use Rattle.model.specs.Laws.Sound.{kind_read}
+use Rattle.model.proofs.Laws.Kinds.{kind_known, kind_unknown}
+use Rattle.model.proofs.Laws.Sound.{kind_read}
 use Rattle.marks.specs.Laws.Marks.{few_columns, few_rows, kind_low}
 use Rattle.soundness.specs.Laws.Columns.{bits_of, part_is}
 use Rattle.soundness.proofs.fresh_part.Statement.{statement}

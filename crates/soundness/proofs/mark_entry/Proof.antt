@@ -3,7 +3,7 @@ use mathlib.Core.Path.{◌≡◌, sym, ◌∙◌}
 use mathlib.Core.Bool.{true}
 use native.Mathlib.Omega.{arith}
 use borrow.Author.Tests.{not-true, not-false}
-use Rattle.model.specs.Laws.WriteBack.{Bytes}
+use Rattle.model.proofs.Laws.WriteBack.{Bytes}
 use Rattle.soundness.specs.Soundness.{Passes}
 use Rattle.soundness.specs.Laws.Judged.{judged_no}
 use Rattle.soundness.specs.Laws.Unused.{rest_zero, rest_refused}

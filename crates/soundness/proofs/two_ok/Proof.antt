@@ -5,8 +5,8 @@ use native.Mathlib.Omega.{arith}
 use borrow.Author.Rules.{rules}
 use borrow.Author.Tests.{not-true, not-false}
 use Rattle.model.specs.Limits.{max_columns}
-use Rattle.model.specs.Laws.Record.{column_part_nil}
-use Rattle.model.specs.Laws.WriteBack.{Bytes}
+use Rattle.model.proofs.Laws.Record.{column_part_nil}
+use Rattle.model.proofs.Laws.WriteBack.{Bytes}
 use Rattle.marks.specs.Laws.Marks.{few_columns}
 use Rattle.soundness.specs.Laws.Judged.{judged_no}
 use Rattle.soundness.specs.Laws.Columns.{column_right, column_refused}

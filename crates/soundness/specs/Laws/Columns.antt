@@ -11,10 +11,10 @@ use Rattle.model.specs.Tasks.{word}
 use Rattle.model.specs.Book.{intervals}
 use Rattle.model.specs.Record.{part, column_at, column_part, device_of, book_of}
 use Rattle.model.specs.Sound.{within, count_of, sound}
-use Rattle.model.specs.Laws.Bounded.{is_false}
-use Rattle.model.specs.Laws.Record.{length_column, record_column, record_count}
-use Rattle.model.specs.Laws.WriteBack.{Bytes}
-use Rattle.model.specs.Laws.Sound.{columns_said, running_said, sound_record}
+use Rattle.model.proofs.Laws.Bounded.{is_false}
+use Rattle.model.proofs.Laws.Record.{length_column, record_column, record_count}
+use Rattle.model.proofs.Laws.WriteBack.{Bytes}
+use Rattle.model.proofs.Laws.Sound.{columns_said, running_said, sound_record}
 use Rattle.words.specs.Words.{Same}
 use Rattle.cells.specs.Ends.{ColumnBits, PartIs, bit_intervals}
 use Rattle.cells.specs.Laws.Book.{shown_intervals}

@@ -17,14 +17,14 @@ use Rattle.model.specs.Sound.{block_count, sound}
 use Rattle.model.specs.Calls.{insert}
 use Rattle.model.specs.Bounded.{In}
 use Rattle.model.specs.InPlace.{no_entry}
-use Rattle.model.specs.Laws.Bounded.{clash, is_false}
-use Rattle.model.specs.Laws.Limits.{Entry, limits_to}
-use Rattle.model.specs.Laws.Split.{fits_split, held_insert}
-use Rattle.model.specs.Laws.Kept.{insert_within}
-use Rattle.model.specs.Laws.Clauses.{clauses_to}
-use Rattle.model.specs.Laws.WriteBack.{Bytes}
-use Rattle.model.specs.Laws.ReadBack.{get_d_in}
-use Rattle.model.specs.Laws.Sound.{sound_within}
+use Rattle.model.proofs.Laws.Bounded.{clash, is_false}
+use Rattle.model.proofs.Laws.Limits.{Entry, limits_to}
+use Rattle.model.proofs.Laws.Split.{fits_split, held_insert}
+use Rattle.model.proofs.Laws.Kept.{insert_within}
+use Rattle.model.proofs.Laws.Clauses.{clauses_to}
+use Rattle.model.proofs.Laws.WriteBack.{Bytes}
+use Rattle.model.proofs.Laws.ReadBack.{get_d_in}
+use Rattle.model.proofs.Laws.Sound.{sound_within}
 use Rattle.marks.specs.Marks.{all_words, TaskMarked}
 use Rattle.record.specs.Entries.{entry_of, blocks_of, bytes_entry, HasEntry}
 use Rattle.record.specs.Laws.Said.{number_said, in_book, entry_by_bytes, blocks_length}

@@ -9,13 +9,13 @@ use Rattle.model.specs.Sound.{within}
 use Rattle.model.specs.Calls.{insert}
 use Rattle.model.specs.Bounded.{In}
 use Rattle.model.specs.InPlace.{no_entry}
-use Rattle.model.specs.Laws.Bounded.{is_false, any_in_to}
-use Rattle.model.specs.Laws.Columns.{height_pos}
-use Rattle.model.specs.Laws.Limits.{Rising, limits_to, rising_above}
-use Rattle.model.specs.Laws.Cells.{covered_holds}
-use Rattle.model.specs.Laws.Split.{fits_split}
-use Rattle.model.specs.Laws.Kept.{apart_cells}
-use Rattle.model.specs.Laws.ReadBack.{get_d_in}
+use Rattle.model.proofs.Laws.Bounded.{is_false, any_in_to}
+use Rattle.model.proofs.Laws.Columns.{height_pos}
+use Rattle.model.proofs.Laws.Limits.{Rising, limits_to, rising_above}
+use Rattle.model.proofs.Laws.Cells.{covered_holds}
+use Rattle.model.proofs.Laws.Split.{fits_split}
+use Rattle.model.proofs.Laws.Kept.{apart_cells}
+use Rattle.model.proofs.Laws.ReadBack.{get_d_in}
 use Rattle.soundness.specs.Soundness.{prior}
 
 take_in : (b : Book) (j : ℕ) (f : Running) → In f (take j b) → In f b

@@ -14,14 +14,14 @@ use Rattle.model.specs.Tasks.{word}
 use Rattle.model.specs.Book.{held, free, intervals}
 use Rattle.model.specs.Record.{part, column_at, entry_at, listed_intervals, device_of, book_of}
 use Rattle.model.specs.Sound.{count_of, used, sound}
-use Rattle.model.specs.Laws.Bounded.{is_false, clash}
-use Rattle.model.specs.Laws.Columns.{top_le}
-use Rattle.model.specs.Laws.Parts.{part_byte, list_parts}
-use Rattle.model.specs.Laws.Limits.{limits_to, within_device}
-use Rattle.model.specs.Laws.Cells.{few_intervals}
-use Rattle.model.specs.Laws.Kept.{within_new}
-use Rattle.model.specs.Laws.Clauses.{Zero, clauses_to, clauses_of}
-use Rattle.model.specs.Laws.Sound.{columns_said, running_said, sound_length, sound_within}
+use Rattle.model.proofs.Laws.Bounded.{is_false, clash}
+use Rattle.model.proofs.Laws.Columns.{top_le}
+use Rattle.model.proofs.Laws.Parts.{part_byte, list_parts}
+use Rattle.model.proofs.Laws.Limits.{limits_to, within_device}
+use Rattle.model.proofs.Laws.Cells.{few_intervals}
+use Rattle.model.proofs.Laws.Kept.{within_new}
+use Rattle.model.proofs.Laws.Clauses.{Zero, clauses_to, clauses_of}
+use Rattle.model.proofs.Laws.Sound.{columns_said, running_said, sound_length, sound_within}
 use Rattle.column.specs.Laws.Part.{encodes, free_small}
 use Rattle.column.specs.Laws.Lent.{listed_lent}
 use Rattle.cells.specs.Bits.{word_bits, cell_bit, digit}

@@ -6,8 +6,8 @@ use Rattle.runs.specs.Laws.Tests.{lt_or_ge}
 use Rattle.model.specs.Limits.{block_size, record_size, columns_at, running_at, kinds_at, counts_at, intervals_at, column_size, entries_at, blocks_at, entry_size}
 use Rattle.model.specs.Record.{column_at, entry_at}
 use Rattle.model.specs.Sound.{block_count, count_of, used, sound}
-use Rattle.model.specs.Laws.Bounded.{is_false}
-use Rattle.model.specs.Laws.Clauses.{Zero, clauses_to}
+use Rattle.model.proofs.Laws.Bounded.{is_false}
+use Rattle.model.proofs.Laws.Clauses.{Zero, clauses_to}
 use Rattle.words.specs.Words.{AllZero}
 use Rattle.record.specs.Entries.{HasEntry}
 use Rattle.soundness.specs.Laws.Judged.{judged_no}

@@ -7,8 +7,8 @@ use Rattle.model.specs.Limits.{max_kind, block_size, reach}
 use Rattle.model.specs.Kinds.{number_of}
 use Rattle.model.specs.Tasks as model
 use Rattle.model.specs.Tasks.{word, lifted, blocks, block, block_ok, follows, well_formed}
-use Rattle.model.specs.Laws.Bounded.{is_false, same_test}
-use Rattle.model.specs.Laws.Tasks.{solid, solid_block}
+use Rattle.model.proofs.Laws.Bounded.{is_false, same_test}
+use Rattle.model.proofs.Laws.Tasks.{solid, solid_block}
 use Rattle.task.specs.declared.Block.{Block}
 use Rattle.task.specs.Blocks.{seen, Same, starts}
 

@@ -5,7 +5,7 @@ use Rattle.std.proofs.Common.{◌∙◌, inl, inr, arith, add-one}
 use Rattle.runs.specs.Laws.Tests.{lt_or_ge}
 use Rattle.model.specs.Bounded.{all_below}
 use Rattle.model.specs.Tasks.{blocks, block, block_ok, follows, well_formed}
-use Rattle.model.specs.Laws.Bounded.{is_false, clash, and_of, and3_to, all_to, all_of, last_or}
+use Rattle.model.proofs.Laws.Bounded.{is_false, clash, and_of, and3_to, all_to, all_of, last_or}
 use Rattle.task.specs.declared.Block.{Block}
 use Rattle.task.specs.Blocks.{seen, Same, starts}
 use Rattle.task.specs.Laws.Blocks.{followed}

@@ -1,0 +1,10 @@
+-- `task::step`: the loop's invariant says what kinds were met so far (`Met`). Assumes nothing.
+use Prim.Native.Nat.{◌-◌}
+use Rattle.task.specs.Laws.Steps.{Met, met_none, met_logic, met_other, step_2, step_5, step_10}
+use Rattle.task.proofs.step.Given as goal
+
+abbrev pub invariant-loop-i : goal.invariant-loop-i
+invariant-loop-i l = Met l.task l.i l.logic l.other
+
+abbrev pub decreases-loop-i : goal.decreases-loop-i
+decreases-loop-i l = l.count - l.i
