@@ -13,7 +13,7 @@ use Rattle.record.proofs.entries.insert_entry.Goals as goal
 
 pub write_entry-requires : goal.write_entry-requires
 write_entry-requires c = let s = c in
-    let p = s.requires.1 in
+    let p = s.requires.task_value in
     let a = entry_at s.args.k in
     (mid_len a (a + entry_size) c.raise_entries.new.record (omega (arith, c.record-1.given)) ∙ add-sub_cancel_left a entry_size, p.0, p.1, p.2, p.3)
 

@@ -19,6 +19,12 @@ bounds-entry-3 c = simp length-set (omega (arith, c.entry-2-1.given, c.entry-1.g
 pub put16-requires-2 : goal.put16-requires-2
 put16-requires-2 c = (simp length-set (omega (arith, c.entry-2-1.given, c.entry-1.given)), c.requires.4)
 
+pub slice_bounds-copy-end : goal.slice_bounds-copy-end
+unfolding blocks
+slice_bounds-copy-end c = let z = sized_to _ c.requires.1 in
+    let l = simp length-set at c.entry-3-1.given in
+    omega (arith, z.whole, z.few, c.entry-2-1.given, c.entry-1.given)
+
 pub shape_of-entry : goal.shape_of-entry
 shape_of-entry c = c.entry-4-1.given.1 ∙ c.entry-3-1.given ∙ (simp length-set (c.entry-2-1.given ∙ c.entry-1.given))
 

@@ -9,10 +9,10 @@ pub returns-in-In : goal.returns-in-In
 returns-in-In c =
     let h = c in
     let d = h in
-    held_in _ _ _ _ d.requires _ d.wide-count.ensures.ensures _ c.in-In.is
+    held_in _ _ _ _ d.requires _ (rw d.wide-count.ensures.is at h.holder.ensures) _ c.in-In.is
 
 pub returns-in-Nowhere : goal.returns-in-Nowhere
 returns-in-Nowhere c =
     let h = c in
     let d = h in
-    held_nowhere _ _ _ _ d.requires _ d.wide-count.ensures.ensures c.in-Nowhere.is
+    held_nowhere _ _ _ _ d.requires _ (rw d.wide-count.ensures.is at h.holder.ensures) c.in-Nowhere.is

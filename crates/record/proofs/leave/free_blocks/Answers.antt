@@ -14,6 +14,9 @@ loop-i-init c = freeing _ _ _ c.requires (λ i. omega (arith, c.slice_known-1.gi
 pub slice_bounds-block_at-count : goal.slice_bounds-block_at-count
 slice_bounds-block_at-count c = (blocks_there c.loop-i.invariant).0
 
+pub slice_bounds-block_at-end : goal.slice_bounds-block_at-end
+slice_bounds-block_at-end c = let b = blocks_there c.loop-i.invariant in omega arith
+
 pub block_at-block-requires : goal.block_at-block-requires
 unfolding part
 block_at-block-requires c = let x = block_there c.loop-i.invariant c.loop-i-test.true in (x.whole, x.kind)

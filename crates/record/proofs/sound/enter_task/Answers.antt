@@ -4,17 +4,17 @@ use Rattle.record.specs.Laws.Rebuild.{tried_formless, tried_misfit, tried_entere
 use Rattle.record.proofs.sound.enter_task.Goals as goal
 
 pub returns-then-not-well_formed : goal.returns-then-not-well_formed
-returns-then-not-well_formed c = tried_formless _ _ _ _ _ _ c.well-formed-2.ensures c.if-not-well_formed.true
+returns-then-not-well_formed c = tried_formless _ _ _ _ _ _ c.well_formed-2.ensures c.if-not-well_formed.true
 
 pub fits-requires : goal.fits-requires
 fits-requires c =
     let o = c in
     let f = o in
     let z = f.requires in
-    (z.sound, z.sized, sym f.well-formed-2.ensures ∙ o.if-not-well_formed.false)
+    (z.sound, z.sized, sym f.well_formed-2.ensures ∙ o.if-not-well_formed.false)
 
 pub returns-then-not-fits : goal.returns-then-not-fits
-returns-then-not-fits c = tried_misfit _ _ _ _ _ _ c.fits2.ensures c.if-not-fits.true
+returns-then-not-fits c = tried_misfit _ _ _ _ _ _ c.fits.ensures c.if-not-fits.true
 
 pub enter-requires : goal.enter-requires
 enter-requires c =
@@ -22,15 +22,16 @@ enter-requires c =
     let h = t in
     let o = h in
     let f = o in
-    let z = f.requires in (
-      record {
+    let z = f.requires in
+    record {
+      placeable = record {
         sound = z.sound;
         sized = z.sized;
-        well_formed = sym f.well-formed-2.ensures ∙ o.if-not-well_formed.false;
-        fits = sym h.fits2.ensures ∙ t.if-not-fits.false;
-      },
-      (z.number, z.room),
-    )
+        well_formed = sym f.well_formed-2.ensures ∙ o.if-not-well_formed.false;
+        fits = sym h.fits.ensures ∙ t.if-not-fits.false;
+      };
+      number_value = (z.number, z.room);
+    }
 
 pub returns : goal.returns
 returns c =
@@ -39,4 +40,4 @@ returns c =
     let h = t in
     let o = h in
     let f = o in
-    tried_entered _ _ _ _ _ _ (sym f.well-formed-2.ensures ∙ o.if-not-well_formed.false) (sym h.fits2.ensures ∙ t.if-not-fits.false) r.enter.ensures
+    tried_entered _ _ _ _ _ _ (sym f.well_formed-2.ensures ∙ o.if-not-well_formed.false) (sym h.fits.ensures ∙ t.if-not-fits.false) r.enter.ensures
