@@ -1,7 +1,7 @@
-// MODEL 12, 13, 16 and 22: the calls on one card's record, for the match server. All but the view have the C calling form (MODEL 16.4).
+// MODEL 12, 13, 16 and 22: the calls on one card's record, for the match server. `card_c` gives all but the view the C calling form (MODEL 16.4).
 // Each contract fixes the answer and every lent byte by the model's call on these bytes (model/specs/OnRecord.antt), refused or not (MODEL 21.1).
-// In a contract `.entry` is what lies behind a reference as the call starts, and `.exit` as it returns. What is lent as `&` is kept by its type.
-// `on_record` is also the step of the theorem about whole histories (model/specs/Laws/History.antt).
+// In a contract `.old` is what lies behind a `&mut` as the call starts, and `.new` as it returns. What is lent as `&` is kept by its type.
+// `on_record` is also the step of the theorem about whole histories (model/proofs/Laws/History.antt).
 #![tactic(auto)]
 ghost use Rattle.std.specs.Prelude.{◌≡◌, true, [], leb, length};
 ghost use Rattle.model.specs.Limits.{max_running};
@@ -107,8 +107,7 @@ fn full(record: &[u8]) -> bool
 }
 
 // MODEL 12.3: writes the record of a device with all cells free.
-#[unsafe(no_mangle)]
-pub extern "C" fn card_new(record: &mut [u8], rows: u32, kinds: &[u8]) -> i32
+pub fn card_new(record: &mut [u8], rows: u32, kinds: &[u8]) -> i32
     ensures { Changes (new «record».old rows kinds.now) result «record».new }
 {
     if record.len() != model::RECORD_SIZE {
@@ -156,8 +155,7 @@ fn check_place(record: &[u8], task: &[u8], number: u32, column: u32, bottom: i32
 }
 
 // MODEL 12.4: enters a task as running at a position, and takes its cells.
-#[unsafe(no_mangle)]
-pub extern "C" fn card_place(
+pub fn card_place(
     record: &mut [u8],
     task: &[u8],
     number: u32,
@@ -190,8 +188,7 @@ fn check_release(record: &[u8], number: u32) -> Check
 }
 
 // MODEL 12.5: frees the cells of a running task and removes its entry.
-#[unsafe(no_mangle)]
-pub extern "C" fn card_release(record: &mut [u8], number: u32) -> i32
+pub fn card_release(record: &mut [u8], number: u32) -> i32
     ensures { Changes (on_record «record».old (release number)) result «record».new }
 {
     match check_release(record, number) {
@@ -218,8 +215,7 @@ fn list_task(record: &[u8], task: &[u8], output: &mut [u8]) -> i32
 }
 
 // MODEL 12.6: writes the ranges of the positions at which a task fits.
-#[unsafe(no_mangle)]
-pub extern "C" fn card_list(record: &[u8], task: &[u8], output: &mut [u8]) -> i32
+pub fn card_list(record: &[u8], task: &[u8], output: &mut [u8]) -> i32
     ensures { Leaves (on_record «record».now (list task.now output.old)) result «record».now output.new }
 {
     match check_task(record, task) {
@@ -240,8 +236,7 @@ fn choose_task(record: &[u8], task: &[u8]) -> i32
 }
 
 // MODEL 11.6: the choice for a task, as 1,024 × column + bottom.
-#[unsafe(no_mangle)]
-pub extern "C" fn card_choose(record: &[u8], task: &[u8]) -> i32
+pub fn card_choose(record: &[u8], task: &[u8]) -> i32
     ensures { Leaves (on_record «record».now (choose task.now)) result «record».now [] }
 {
     match check_task(record, task) {
@@ -265,8 +260,7 @@ fn check_column(record: &[u8], column: u32) -> Check
 }
 
 // MODEL 16.1: the number of free intervals of a column.
-#[unsafe(no_mangle)]
-pub extern "C" fn card_interval_count(record: &[u8], column: u32) -> i32
+pub fn card_interval_count(record: &[u8], column: u32) -> i32
     ensures { Leaves (interval_count «record».now column) result «record».now [] }
 {
     match check_column(record, column) {
@@ -276,8 +270,7 @@ pub extern "C" fn card_interval_count(record: &[u8], column: u32) -> i32
 }
 
 // MODEL 22.5: how broken up a card is. The answer is the number of connected sets; the free cells and the degree are written, as zeros if refused.
-#[unsafe(no_mangle)]
-pub extern "C" fn card_fragmentation(record: &[u8], free: &mut i32, degree: &mut i32) -> i32
+pub fn card_fragmentation(record: &[u8], free: &mut i32, degree: &mut i32) -> i32
     ensures { Tells (fragmentation «record».now) result free.new degree.new «record».now }
 {
     *free = 0;

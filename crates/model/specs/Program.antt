@@ -1,5 +1,5 @@
 -- MODEL 18: the sheet program, from its input to its output, by the book. Assumes nothing.
-use Rattle.std.specs.Prelude.{ℕ, suc, ◌+◌, Bool, cond, true, false, ◌&&◌, List, [], ◌∷◌, ◌++◌, ltb, eqb, ℤ, pos, negsuc, neg_ℤ, length, replicate}
+use Rattle.std.specs.Prelude.{ℕ, suc, Bool, cond, true, false, ◌&&◌, List, [], ◌∷◌, ◌++◌, ltb, eqb, ℤ, pos, negsuc, neg_ℤ, length, replicate}
 use Prim.Native.Char.{code}
 use Rattle.std.proofs.Math.Option.{Option, none, some}
 use Rattle.std.specs.Int.{w16}

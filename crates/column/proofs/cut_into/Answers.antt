@@ -1,11 +1,10 @@
 -- Answers of `column::cut_into`.
-use Prim.Native.Nat.{◌-◌, ◌≤◌}
 use mathlib.Core.Path.{refl, ap}
 use mathlib.Core.List.{[]}
 use native.Mathlib.Omega.{arith}
 use lib.ListN.{length}
 use Rattle.model.proofs.Laws.Record.{length_column}
-use Rattle.column.specs.Laws.Writing.{Writing, on, size, cut_start, cut_next, cut_end, keep_room}
+use Rattle.column.specs.Laws.Writing.{on, size, cut_start, cut_next, cut_end, keep_room}
 use Rattle.column.proofs.cut_into.Goals as goal
 
 pub loop-i-init : goal.loop-i-init

@@ -2,7 +2,7 @@
 use Prim.Native.Nat.{◌-◌, ◌≤◌}
 use Rattle.runs.specs.Intervals.{subtract}
 use Rattle.column.specs.Part.{listed_from, listed_in}
-use Rattle.column.specs.Laws.Writing.{Writing, on, size, cut_start, cut_next, cut_end, keep_room}
+use Rattle.column.specs.Laws.Writing.{Writing}
 use Rattle.column.proofs.cut_into.Given as goal
 
 abbrev pub invariant-loop-i : goal.invariant-loop-i

@@ -1,9 +1,8 @@
 -- Answers of `column::holder`.
-use Prim.Native.Nat.{◌-◌, ◌≤◌}
-use mathlib.Core.Path.{◌≡◌, ap}
+use mathlib.Core.Path.{ap}
 use native.Mathlib.Omega.{arith}
 use Rattle.runs.specs.Laws.Tests.{tests}
-use Rattle.column.specs.Part.{listed_from, listed_in, holding}
+use Rattle.column.specs.Part.{holding}
 use Rattle.column.specs.Laws.Holding.{held, passed, none_held}
 use Rattle.column.specs.Laws.Reading.{listed_all}
 use Rattle.column.proofs.holder.Goals as goal
@@ -19,11 +18,13 @@ returns-then-next-bottom c =
 
 pub loop-i-preserved : goal.loop-i-preserved
 loop-i-preserved c =
-    let l = c.loop-i in
-    (omega arith, passed c.loop-i-test.true c.read-next.ensures _ _ l.invariant.1 (elim c.else-top-next.branch [
-      | else-top-next-via-then-top-next+else-next-bottom w ↦ λ a b. omega (tests, w.if-next-bottom.false)
-      | else-top-next-via-else-top-next w ↦ λ a b. omega (arith, w.if-top-next.false)
-    ]))
+    let l = c.loop-i in (
+      omega arith,
+      passed c.loop-i-test.true c.read-next.ensures _ _ l.invariant.1 (elim c.else-top-next.branch [
+        | else-top-next-via-then-top-next+else-next-bottom w ↦ λ a b. omega (tests, w.if-next-bottom.false)
+        | else-top-next-via-else-top-next w ↦ λ a b. omega (arith, w.if-top-next.false)
+      ]),
+    )
 
 pub returns : goal.returns
 returns c = none_held _ _ _ c.loop-i-test.false c.loop-i.invariant.1

@@ -1,6 +1,6 @@
 -- `column::holder` meets its contract. The invariant: no interval below i holds the half rows. Assumes nothing.
 use Prim.Native.Nat.{◌-◌, ◌≤◌}
-use mathlib.Core.Path.{◌≡◌, ap}
+use mathlib.Core.Path.{◌≡◌}
 use Rattle.column.specs.Part.{listed_from, listed_in, holding}
 use Rattle.column.proofs.holder.Given as goal
 

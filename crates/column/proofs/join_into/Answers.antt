@@ -1,11 +1,10 @@
 -- Answers of `column::join_into`.
-use Prim.Native.Nat.{◌-◌, ◌≤◌, ◌<◌}
 use mathlib.Core.Path.{ap}
 use mathlib.Core.List.{[]}
 use native.Mathlib.Omega.{arith}
 use lib.ListN.{length}
 use Rattle.model.proofs.Laws.Record.{length_column}
-use Rattle.column.specs.Laws.Writing.{Writing, size, join_start, join_next, join_room, join_end}
+use Rattle.column.specs.Laws.Writing.{size, join_start, join_next, join_room, join_end}
 use Rattle.column.proofs.join_into.Goals as goal
 
 pub loop-i-init : goal.loop-i-init

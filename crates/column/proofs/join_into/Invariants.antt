@@ -3,7 +3,7 @@ use Prim.Native.Nat.{◌-◌, ◌≤◌, ◌<◌}
 use Rattle.runs.specs.Intervals.{unite}
 use Rattle.model.specs.Limits.{words}
 use Rattle.column.specs.Part.{listed_from, listed_in, merged}
-use Rattle.column.specs.Laws.Writing.{Writing, size, join_start, join_next, join_room, join_end}
+use Rattle.column.specs.Laws.Writing.{Writing}
 use Rattle.column.proofs.join_into.Given as goal
 
 abbrev pub invariant-loop-i : goal.invariant-loop-i

@@ -1,6 +1,5 @@
 -- Answers of `column::reaching`.
-use Prim.Native.Nat.{◌-◌}
-use mathlib.Core.Path.{◌≡◌, refl}
+use mathlib.Core.Path.{refl}
 use Rattle.column.specs.Laws.Reaching.{reached_here, reached_later, reached_none}
 use Rattle.column.proofs.reaching.Goals as goal
 

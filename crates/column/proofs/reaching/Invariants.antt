@@ -1,6 +1,6 @@
 -- `column::reaching` meets its contract. The invariant: from number i on the search finds what it finds from `from` on. Assumes nothing.
 use Prim.Native.Nat.{◌-◌}
-use mathlib.Core.Path.{◌≡◌, refl}
+use mathlib.Core.Path.{◌≡◌}
 use Rattle.column.specs.Part.{listed_in, first_reaching}
 use Rattle.column.proofs.reaching.Given as goal
 

@@ -3,7 +3,6 @@ use Rattle.std.specs.Prelude.{ℕ, ◌+◌, ◌*◌, ◌≤◌, ◌<◌, ◌≡�
 use Rattle.std.proofs.Common.{sym, ap, ◌∙◌, arith, zero-add, length-set, get_or-set_other}
 use Rattle.model.specs.Limits.{max_columns, max_running, head_size, kinds_at, counts_at, intervals_at, column_size, entries_at, entry_size}
 use Rattle.model.specs.Bounded.{join_below, list_below}
-use Rattle.model.specs.Columns.{columns}
 use Rattle.model.specs.Record.{layout, part, column_at, entry_at}
 use Rattle.model.specs.Parts.{splice}
 use Rattle.model.specs.InPlace.{Reads}

@@ -1,14 +1,14 @@
 -- MODEL 10.5 and 12.6: a listing names each fitting position once, by column and then by bottom, and the output has space for it. Assumes nothing.
 use Prim.Native.Nat.{ℕ, zero, suc, ◌+◌, ◌-◌, ◌*◌, ◌/◌, ◌≤◌, ◌<◌}
-use Rattle.std.specs.Prelude.{◌≡◌, ◌⊎◌, ◌↔◌, Bool, eqb, length}
+use Rattle.std.specs.Prelude.{◌≡◌, ◌↔◌, Bool, eqb, length}
 use Rattle.std.proofs.Math.Path.{refl, ap}
-use Rattle.std.proofs.Common.{sym, ap₂, ◌∙◌, inl, inr, mul-le-mul_left, length-append}
+use Rattle.std.proofs.Common.{sym, ap₂, ◌∙◌, mul-le-mul_left, length-append}
 use Rattle.std.proofs.Math.Bool.{true, false, cond}
 use mathlib.Core.List.{List, [], ◌∷◌, ◌++◌, map, append_assoc, append-nil}
 use Rattle.std.proofs.Math.Nat.{zero-div, div-eq_of_eq-mul_left}
 use native.Mathlib.Omega.{arith}
 use Rattle.std.proofs.lemmas.List.{length-map}
-use Rattle.runs.specs.Laws.Tests.{tests, cond_ind, lt_or_ge}
+use Rattle.runs.specs.Laws.Tests.{tests, cond_ind}
 use Rattle.runs.specs.Runs.{Run, run, Steps, From, push, runs}
 use Rattle.runs.specs.Laws.Runs.{InStep, runs_lists, runs_count}
 use Rattle.model.specs.Limits.{max_rows, max_intervals, list_room, range_size}

@@ -4,7 +4,7 @@ use Rattle.std.proofs.Common.{sym, ap, ◌∙◌, div-add-mod', mod-lt, le-div_i
 use Rattle.std.proofs.Math.Nat.{div-add-mod, mul-div-le}
 use Rattle.model.specs.Limits.{reach}
 use Rattle.model.specs.Columns.{Device, columns, half_rows, height, kind}
-use Rattle.model.specs.Tasks.{Block, blocks, block, sized, well_formed}
+use Rattle.model.specs.Tasks.{Block, block, sized, well_formed}
 use Rattle.model.specs.Book.{Book, free, fits, cell_free}
 use Rattle.model.specs.Listing.{position, fitting}
 use Rattle.model.specs.Calls.{no_position}

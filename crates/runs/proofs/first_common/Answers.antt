@@ -1,8 +1,7 @@
 -- Answers of `runs::first_common`.
-use Prim.Native.Nat.{◌+◌, ◌-◌}
 use native.Mathlib.Omega.{arith}
 use Rattle.runs.specs.Laws.Steps.{steps_mod}
-use Rattle.runs.specs.Laws.Meet.{Passed, passed_start, passed_next}
+use Rattle.runs.specs.Laws.Meet.{passed_start, passed_next}
 use Rattle.runs.proofs.first_common.Goals as goal
 
 pub loop-x-init : goal.loop-x-init

@@ -1,6 +1,6 @@
 -- `runs::first_common` meets its contract. The loop's invariant: none of those passed is common (`Passed`). Assumes nothing.
 use Prim.Native.Nat.{◌+◌, ◌-◌}
-use Rattle.runs.specs.Laws.Meet.{Passed, passed_start, passed_next}
+use Rattle.runs.specs.Laws.Meet.{Passed}
 use Rattle.runs.proofs.first_common.Given as goal
 
 abbrev pub invariant-loop-x : goal.invariant-loop-x

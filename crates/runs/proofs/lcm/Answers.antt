@@ -1,7 +1,6 @@
 -- Answers of `runs::lcm`.
-use Prim.Native.Nat.{◌*◌, ◌-◌}
 use native.Mathlib.Omega.{arith}
-use Rattle.runs.specs.Laws.Lcm.{lcm_same, product_small, Sought, lcm_start, lcm_room, lcm_next, lcm_done}
+use Rattle.runs.specs.Laws.Lcm.{lcm_same, product_small, lcm_start, lcm_room, lcm_next, lcm_done}
 use Rattle.runs.proofs.lcm.Goals as goal
 
 pub returns-then-a-b : goal.returns-then-a-b

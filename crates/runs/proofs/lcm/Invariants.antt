@@ -1,7 +1,7 @@
 -- `runs::lcm` meets its contract. The loop's invariant: `m` is a multiple of `a`, and no lower one is a multiple of `b` (`Sought`). The measure is what is left
 -- up to `a * b`. Assumes nothing.
 use Prim.Native.Nat.{◌*◌, ◌-◌}
-use Rattle.runs.specs.Laws.Lcm.{lcm_same, product_small, Sought, lcm_start, lcm_room, lcm_next, lcm_done}
+use Rattle.runs.specs.Laws.Lcm.{Sought}
 use Rattle.runs.proofs.lcm.Given as goal
 
 abbrev pub invariant-loop-m : goal.invariant-loop-m

@@ -1,9 +1,7 @@
 -- `runs::meet_equal` meets its contract, by `met_equal` and `unmet_equal` over the results of its calls. Assumes nothing.
 use Prim.Native.Nat.{◌-◌, ◌%◌}
 use mathlib.Core.Path.{◌≡◌}
-use mathlib.Core.Logic.{inl, inr}
 use native.Mathlib.Omega.{arith}
-use borrow.Author.Tests.{eqb-true, eqb-false, not-true, not-false}
 use Rattle.runs.specs.Laws.Steps.{mod_steps}
 use Rattle.runs.specs.Laws.Meet.{met_equal, unmet_equal}
 use Rattle.runs.proofs.meet_equal.Goals as goal

@@ -1,9 +1,9 @@
 -- Answers of `sets::root`.
 use mathlib.Core.Path.{◌≡◌, refl}
 use mathlib.Core.List.{List}
-use Prim.Native.Nat.{ℕ, ◌≤◌}
+use Prim.Native.Nat.{ℕ}
 use native.Mathlib.Omega.{arith}
-use Rattle.sets.specs.Forest.{Falls, at, root as top_of}
+use Rattle.sets.specs.Forest.{Falls, at}
 use Rattle.sets.specs.Laws.Unions.{root_step, root_here}
 use Rattle.sets.proofs.root.Goals as goal
 

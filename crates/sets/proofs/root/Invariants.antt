@@ -1,7 +1,7 @@
 -- `sets::root` meets its contract. The loop's invariant: the node reached has the root of the node asked for. Assumes nothing.
-use mathlib.Core.Path.{◌≡◌, refl}
-use Prim.Native.Nat.{ℕ, ◌≤◌}
-use Rattle.sets.specs.Forest.{Falls, at, root as top_of}
+use mathlib.Core.Path.{◌≡◌}
+use Prim.Native.Nat.{◌≤◌}
+use Rattle.sets.specs.Forest.{at, root as top_of}
 use Rattle.sets.proofs.root.Given as goal
 
 abbrev pub invariant-loop-up : goal.invariant-loop-up

@@ -1,6 +1,6 @@
 -- Answers of `sets::set_apart`.
-use mathlib.Core.Path.{◌≡◌, refl, ◌∙◌}
-use Prim.Native.Nat.{ℕ, ◌-◌, ◌≤◌, ◌<◌}
+use mathlib.Core.Path.{refl, ◌∙◌}
+use Prim.Native.Nat.{◌<◌}
 use lib.ListN.{length, length-set}
 use Rattle.sets.specs.Laws.Unions.{own_step}
 use native.Mathlib.Omega.{arith}

@@ -1,7 +1,7 @@
 -- `sets::set_apart` meets its contract. Assumes nothing.
-use mathlib.Core.Path.{◌≡◌, refl, ◌∙◌}
+use mathlib.Core.Path.{◌≡◌}
 use Prim.Native.Nat.{ℕ, ◌-◌, ◌≤◌, ◌<◌}
-use lib.ListN.{length, length-set}
+use lib.ListN.{length}
 use Rattle.sets.specs.Forest.{Falls, at}
 use Rattle.sets.proofs.set_apart.Given as goal
 

@@ -1,7 +1,7 @@
 -- Nodes in groups: where each group is joined inside, and groups step to one another where some of their nodes do, there are as many sets
 -- of nodes as of groups. Assumes nothing.
 use Rattle.std.specs.Prelude.{◌≡◌, refl, ◌⊎◌, List, [], ◌∷◌, map}
-use Rattle.std.proofs.Common.{sym, ap, subst, inl, inr, ⊎_elim}
+use Rattle.std.proofs.Common.{sym, subst, inl, inr, ⊎_elim}
 use Rattle.sets.specs.Graph.{In, Leads, Joined, Unrelated, Represents}
 use Rattle.sets.specs.Laws.Lists.{in_map_to, in_map_of}
 use Rattle.sets.specs.Laws.Joined.{joined_refl, joined_step, joined_trans}

@@ -1,9 +1,8 @@
 -- Answers of `task::step`.
-use Prim.Native.Nat.{◌-◌}
 use mathlib.Core.Path.{sym, ◌∙◌}
 use native.Mathlib.Omega.{arith}
 use Rattle.model.specs.Tasks.{blocks, block}
-use Rattle.task.specs.Laws.Steps.{Met, met_none, met_logic, met_other, step_2, step_5, step_10}
+use Rattle.task.specs.Laws.Steps.{met_none, met_logic, met_other, step_2, step_5, step_10}
 use Rattle.task.proofs.step.Goals as goal
 use Rattle.task.proofs.step.Goals.{then-is_logic, else-is_logic}
 
@@ -30,8 +29,8 @@ unfolding blocks block
 loop-i-preserved c = let d = c in
     let e = sym c.is_logic.ensures in
     elim c.if-is_logic.branch [
-    | then-is_logic w ↦ rw (w.logic-is, w.other-is) (met_logic _ _ _ _ d.loop-i.invariant d.loop-i-test.true (e ∙ w.if-is_logic.true))
-    | else-is_logic w ↦ rw (w.logic-is, w.other-is) (met_other _ _ _ _ d.loop-i.invariant d.loop-i-test.true (e ∙ w.if-is_logic.false))
+      | then-is_logic w ↦ rw (w.logic-is, w.other-is) (met_logic _ _ _ _ d.loop-i.invariant d.loop-i-test.true (e ∙ w.if-is_logic.true))
+      | else-is_logic w ↦ rw (w.logic-is, w.other-is) (met_other _ _ _ _ d.loop-i.invariant d.loop-i-test.true (e ∙ w.if-is_logic.false))
     ]
 
 pub returns-then-not-logic : goal.returns-then-not-logic

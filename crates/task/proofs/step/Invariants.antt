@@ -1,6 +1,6 @@
 -- `task::step`: the loop's invariant says what kinds were met so far (`Met`). Assumes nothing.
 use Prim.Native.Nat.{◌-◌}
-use Rattle.task.specs.Laws.Steps.{Met, met_none, met_logic, met_other, step_2, step_5, step_10}
+use Rattle.task.specs.Laws.Steps.{Met}
 use Rattle.task.proofs.step.Given as goal
 
 abbrev pub invariant-loop-i : goal.invariant-loop-i

@@ -1,9 +1,8 @@
 -- Answers of `task::well_formed`.
-use Prim.Native.Nat.{◌-◌}
 use mathlib.Core.Path.{sym, ◌∙◌}
 use native.Mathlib.Omega.{arith}
 use Rattle.model.specs.Tasks.{blocks}
-use Rattle.task.specs.Laws.Tasks.{Tested, ill_start, ill_block, ill_pair, no_blocks, tested_first, tested_next, all_tested}
+use Rattle.task.specs.Laws.Tasks.{ill_start, ill_block, ill_pair, no_blocks, tested_first, tested_next, all_tested}
 use Rattle.task.proofs.well_formed.Goals as goal
 
 pub returns-then-not-starts_at_zero : goal.returns-then-not-starts_at_zero

@@ -1,6 +1,6 @@
 -- `task::well_formed`: the loop's invariant says that the blocks so far pass and which was the last (`Tested`). Assumes nothing.
 use Prim.Native.Nat.{◌-◌}
-use Rattle.task.specs.Laws.Tasks.{Tested, ill_start, ill_block, ill_pair, no_blocks, tested_first, tested_next, all_tested}
+use Rattle.task.specs.Laws.Tasks.{Tested}
 use Rattle.task.proofs.well_formed.Given as goal
 
 abbrev pub invariant-loop-i : goal.invariant-loop-i

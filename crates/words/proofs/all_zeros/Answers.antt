@@ -1,7 +1,6 @@
 -- Answers of `words::all_zeros`.
-use Prim.Native.Nat.{◌-◌, ◌≤◌}
 use native.Mathlib.Omega.{arith}
-use Rattle.words.specs.Laws.Zeros.{Ored, ored_start, ored_next, ored_end}
+use Rattle.words.specs.Laws.Zeros.{ored_start, ored_next, ored_end}
 use Rattle.words.proofs.all_zeros.Goals as goal
 
 pub loop-i-init : goal.loop-i-init

@@ -1,7 +1,7 @@
 -- `words::all_zeros` meets its contract. The invariant: the bytes passed are or-ed. Assumes nothing.
 use Prim.Native.Nat.{◌-◌, ◌≤◌}
 use lib.ListN.{length}
-use Rattle.words.specs.Laws.Zeros.{Ored, ored_start, ored_next, ored_end}
+use Rattle.words.specs.Laws.Zeros.{Ored}
 use Rattle.words.proofs.all_zeros.Given as goal
 
 abbrev pub invariant-loop-i : goal.invariant-loop-i

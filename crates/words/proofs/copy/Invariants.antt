@@ -1,7 +1,7 @@
 -- `words::copy` meets its contract. The invariant: the first i bytes are the other slice's. Assumes nothing.
-use Prim.Native.Nat.{◌-◌, ◌≤◌, ◌<◌}
-use mathlib.Core.Path.{◌≡◌, refl, sym, ◌∙◌}
-use lib.ListN.{length, get_or, take}
+use Prim.Native.Nat.{◌-◌, ◌≤◌}
+use mathlib.Core.Path.{◌≡◌}
+use lib.ListN.{length, take}
 use Rattle.words.proofs.copy.Given as goal
 
 abbrev pub invariant-loop-i : goal.invariant-loop-i

@@ -1,9 +1,8 @@
 -- Answers of `words::equal`.
-use Prim.Native.Nat.{◌+◌, ◌-◌, ◌≤◌}
+use Prim.Native.Nat.{◌+◌, ◌-◌}
 use mathlib.Core.Path.{◌≡◌, refl}
 use native.Mathlib.Omega.{arith}
-use borrow.Author.Tests.{not-true, not-false}
-use lib.ListN.{length, take, length-take, length-drop}
+use lib.ListN.{length-take, length-drop}
 use Rattle.words.proofs.Laws.{other_length, block_differs, block_agrees, last_block}
 use Rattle.words.proofs.equal.Goals as goal
 

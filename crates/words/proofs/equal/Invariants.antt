@@ -1,7 +1,7 @@
 -- `words::equal` meets its contract. The invariant: the blocks passed agree. Assumes nothing.
-use Prim.Native.Nat.{◌+◌, ◌-◌, ◌≤◌}
-use mathlib.Core.Path.{◌≡◌, refl}
-use lib.ListN.{length, take, length-take, length-drop}
+use Prim.Native.Nat.{◌-◌, ◌≤◌}
+use mathlib.Core.Path.{◌≡◌}
+use lib.ListN.{length, take}
 use Rattle.words.proofs.equal.Given as goal
 
 abbrev pub invariant-loop-at : goal.invariant-loop-at

@@ -1,7 +1,6 @@
 -- Answers of `words::equal_block`.
-use Prim.Native.Nat.{◌-◌, ◌≤◌}
 use native.Mathlib.Omega.{arith}
-use Rattle.words.proofs.Laws.{Upto, upto_none, upto_differ, upto_same, upto_all}
+use Rattle.words.proofs.Laws.{upto_none, upto_differ, upto_same, upto_all}
 use Rattle.words.proofs.equal_block.Goals as goal
 use Rattle.words.proofs.equal_block.Goals.{then-a-i, else-a-i}
 
@@ -13,8 +12,8 @@ loop-i-preserved c =
     let u = c.loop-i.invariant.1 in
     let t = c.loop-i-test.true in
     elim c.if-a-i.branch [
-    | then-a-i w ↦ (omega arith, rw w.same-is (upto_differ _ _ _ w.if-a-i.true))
-    | else-a-i w ↦ (omega arith, rw w.same-is (upto_same _ _ _ _ t (omega arith) w.if-a-i.false u))
+      | then-a-i w ↦ (omega arith, rw w.same-is (upto_differ _ _ _ w.if-a-i.true))
+      | else-a-i w ↦ (omega arith, rw w.same-is (upto_same _ _ _ _ t (omega arith) w.if-a-i.false u))
     ]
 
 pub returns : goal.returns

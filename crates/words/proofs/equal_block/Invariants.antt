@@ -1,7 +1,7 @@
 -- `words::equal_block` meets its contract. The invariant: the flag says whether the first i bytes agree. Assumes nothing.
 use Prim.Native.Nat.{◌-◌, ◌≤◌}
 use lib.ListN.{length}
-use Rattle.words.proofs.Laws.{Upto, upto_none, upto_differ, upto_same, upto_all}
+use Rattle.words.proofs.Laws.{Upto}
 use Rattle.words.proofs.equal_block.Given as goal
 
 abbrev pub invariant-loop-i : goal.invariant-loop-i

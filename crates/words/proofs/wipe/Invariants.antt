@@ -1,7 +1,7 @@
 -- `words::wipe` meets its contract. The invariant: the first i bytes are 0. Assumes nothing.
 use Prim.Native.Nat.{◌-◌, ◌≤◌}
-use mathlib.Core.Path.{◌≡◌, refl, sym, ap, ◌∙◌}
-use lib.ListN.{length, take, set, replicate, replicate-append-replicate}
+use mathlib.Core.Path.{◌≡◌}
+use lib.ListN.{length, take, replicate}
 use Rattle.words.proofs.wipe.Given as goal
 
 abbrev pub invariant-loop-i : goal.invariant-loop-i

@@ -3,7 +3,6 @@ use Prim.Native.Nat.{◌-◌, ◌*◌, ◌/◌}
 use mathlib.Core.Path.{◌≡◌}
 use native.Mathlib.Omega.{arith}
 use native.Mathlib.Nat.{le_refl, sub-zero}
-use borrow.Author.Tests.{not-true, not-false}
 use lib.ListN.{length, take, drop, length-drop}
 use lib.Seq.{take_all}
 use Rattle.words.specs.Laws.Zeros.{zeros_block, front_not, back_tells}

@@ -1,11 +1,10 @@
 -- Answers of `record::clear::clear`.
-use Prim.Native.Nat.{◌≤◌, ◌-◌}
 use mathlib.Core.Path.{◌≡◌, refl, sym, ◌∙◌}
 use native.Mathlib.Omega.{arith}
 use native.Mathlib.Numerals.{add-one}
 use lib.ListN.{length}
 use Rattle.model.specs.Columns.{columns, kind}
-use Rattle.record.specs.Laws.Clear.{Opened, opened_none, opened_closed, opened_more, opened_all, bounds}
+use Rattle.record.specs.Laws.Clear.{opened_none, opened_closed, opened_more, opened_all, bounds}
 use Rattle.record.proofs.clear.clear.Goals as goal
 
 pub put16-requires : goal.put16-requires

@@ -1,7 +1,7 @@
 -- `record::clear::clear`: the loop's invariant says that the columns so far are open (`Opened`). Assumes nothing.
 use Prim.Native.Nat.{◌≤◌, ◌-◌}
 use lib.ListN.{length}
-use Rattle.record.specs.Laws.Clear.{Opened, opened_none, opened_closed, opened_more, opened_all, bounds}
+use Rattle.record.specs.Laws.Clear.{Opened}
 use Rattle.record.proofs.clear.clear.Given as goal
 
 abbrev pub invariant-loop-c : goal.invariant-loop-c

@@ -1,10 +1,9 @@
 -- Answers of `record::device::kinds_ok`.
-use Prim.Native.Nat.{◌≤◌, ◌-◌}
 use mathlib.Core.Path.{◌≡◌}
 use native.Mathlib.Omega.{arith}
 use borrow.Author.Count.{below_none, below_more}
 use lib.ListN.{length}
-use Rattle.record.specs.Laws.Device.{Kinds, kinds_all, kinds_bad}
+use Rattle.record.specs.Laws.Device.{kinds_all, kinds_bad}
 use Rattle.record.proofs.device.kinds_ok.Goals as goal
 
 -- src/device.rt:16:5

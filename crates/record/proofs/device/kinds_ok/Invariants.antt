@@ -1,7 +1,7 @@
 -- `record::device::kinds_ok`: the kinds so far are kinds (`Kinds`). Assumes nothing.
 use Prim.Native.Nat.{◌≤◌, ◌-◌}
 use lib.ListN.{length}
-use Rattle.record.specs.Laws.Device.{Kinds, kinds_all, kinds_bad}
+use Rattle.record.specs.Laws.Device.{Kinds}
 use Rattle.record.proofs.device.kinds_ok.Given as goal
 
 abbrev pub invariant-loop-i : goal.invariant-loop-i

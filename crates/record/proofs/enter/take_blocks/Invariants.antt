@@ -1,6 +1,6 @@
 -- `record::enter::take_blocks`: the first i blocks are taken (`taken`). Assumes nothing.
 use Prim.Native.Nat.{◌-◌, ◌≤◌}
-use mathlib.Core.Path.{◌≡◌, sym, ap, ◌∙◌}
+use mathlib.Core.Path.{◌≡◌}
 use Rattle.model.specs.Tasks.{blocks}
 use Rattle.model.specs.Book.{placed}
 use Rattle.model.specs.Record.{device_of, book_of}

@@ -1,9 +1,8 @@
 -- Answers of `record::entries::copy_entry`.
-use Prim.Native.Nat.{◌-◌, ◌≤◌}
 use mathlib.Core.Path.{◌≡◌, sym}
 use native.Mathlib.Omega.{arith}
 use borrow.Author.Rules.{rules}
-use Rattle.model.specs.Limits.{record_size, entry_size}
+use Rattle.model.specs.Limits.{entry_size}
 use Rattle.model.specs.Record.{part, entry_at}
 use Rattle.model.proofs.Laws.Parts.{splice_none, splice_copy}
 use Rattle.record.proofs.entries.copy_entry.Goals as goal

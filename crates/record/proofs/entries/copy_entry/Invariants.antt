@@ -1,9 +1,9 @@
 -- `record::entries::copy_entry`: the bytes so far are copied (`splice_copy`). Assumes nothing.
 use Prim.Native.Nat.{◌-◌, ◌≤◌}
-use mathlib.Core.Path.{◌≡◌, sym}
+use mathlib.Core.Path.{◌≡◌}
 use lib.ListN.{length}
 use Rattle.model.specs.Limits.{record_size, entry_size}
-use Rattle.model.specs.Record.{part, entry_at}
+use Rattle.model.specs.Record.{part}
 use Rattle.model.specs.Parts.{splice}
 use Rattle.record.proofs.entries.copy_entry.Given as goal
 

@@ -1,6 +1,6 @@
 -- `record::entries::find`: no entry so far has the number. Assumes nothing.
 use Prim.Native.Nat.{ℕ, ◌-◌, ◌≤◌, ◌<◌}
-use mathlib.Core.Path.{◌≡◌, sym, ◌∙◌}
+use mathlib.Core.Path.{◌≡◌}
 use Rattle.model.specs.Tasks.{word}
 use Rattle.model.specs.Record.{entry_at}
 use Rattle.record.proofs.entries.find.Given as goal

@@ -1,5 +1,5 @@
 -- Answers of `record::entries::place_of`.
-use Prim.Native.Nat.{ℕ, ◌-◌, ◌≤◌, ◌<◌}
+use Prim.Native.Nat.{◌-◌}
 use mathlib.Core.Path.{◌≡◌}
 use native.Mathlib.Omega.{arith}
 use Rattle.model.proofs.Laws.Clauses.{clauses_to}

@@ -1,5 +1,5 @@
 -- `record::entries::place_of`: all entries from k on have a higher number. Assumes nothing.
-use Prim.Native.Nat.{ℕ, ◌-◌, ◌≤◌, ◌<◌}
+use Prim.Native.Nat.{ℕ, ◌≤◌, ◌<◌}
 use lib.ListN.{get_or}
 use Rattle.model.specs.Limits.{running_at}
 use Rattle.model.specs.Tasks.{word}

@@ -1,11 +1,10 @@
 -- Answers of `record::fits::fits`.
-use Prim.Native.Nat.{◌-◌}
 use native.Mathlib.Omega.{arith}
 use Rattle.model.specs.Tasks.{blocks}
 use Rattle.model.proofs.Laws.Sound.{sound_length}
 use Rattle.model.proofs.Laws.Tasks.{solid_block}
 use Rattle.task.specs.Laws.Blocks.{same_seen}
-use Rattle.record.specs.Laws.Fits.{off_column, off_bottom, movable, Fit, fit_none, fit_next, fit_all, misfit}
+use Rattle.record.specs.Laws.Fits.{off_column, off_bottom, movable, fit_none, fit_next, fit_all, misfit}
 use Rattle.record.proofs.fits.fits.Goals as goal
 
 pub bounds-record-2 : goal.bounds-record-2

@@ -1,6 +1,6 @@
 -- `record::fits::fits`: the loop's invariant says that the blocks so far fit (`Fit`). Assumes nothing.
 use Prim.Native.Nat.{◌-◌}
-use Rattle.record.specs.Laws.Fits.{off_column, off_bottom, movable, Fit, fit_none, fit_next, fit_all, misfit}
+use Rattle.record.specs.Laws.Fits.{Fit}
 use Rattle.record.proofs.fits.fits.Given as goal
 
 abbrev pub invariant-loop-i : goal.invariant-loop-i

@@ -1,6 +1,6 @@
 -- `record::sound::enter_all`: the loop's invariant says that the entries so far are rebuilt. Assumes nothing.
 use Prim.Native.Nat.{◌-◌, ◌≤◌}
-use mathlib.Core.Path.{◌≡◌, refl}
+use mathlib.Core.Path.{◌≡◌}
 use lib.ListN.{length}
 use Rattle.record.specs.Rebuild.{Rebuilt}
 use Rattle.record.proofs.sound.enter_all.Given as goal
