@@ -2,6 +2,7 @@
 // Only the lowest and the highest bottom of each stretch in which no block leaves its free interval are scored: between them s stays the same
 // and n is no less (model/specs/Laws/Ends.antt).
 #![tactic(auto)]
+
 ghost use Rattle.std.specs.Prelude.{◌≡◌, suc, ◌+◌, ◌≤◌, ◌<◌, true, ltb};
 ghost use Rattle.runs.specs.Intervals.{interval, Holds};
 ghost use Rattle.runs.specs.Meet.{Step};

@@ -7,7 +7,7 @@ use Rattle.std.proofs.Math.Bool.{true}
 use Rattle.runs.specs.Intervals.{Interval, interval, Holds}
 use Rattle.runs.specs.Laws.Tests.{tests, and_to}
 use Rattle.model.specs.Limits.{max_rows, max_columns, reach}
-use Rattle.model.specs.Columns.{Device, columns, top}
+use Rattle.model.specs.Columns.{Device, columns}
 use Rattle.model.specs.Tasks.{blocks, block}
 use Rattle.model.specs.Book.{Book, Placed, placed, fits, intervals}
 use Rattle.model.specs.Homes.{holder, home, joined}

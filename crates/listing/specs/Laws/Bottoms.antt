@@ -12,7 +12,7 @@ use Rattle.runs.specs.Meet.{Spaced}
 use Rattle.runs.specs.Laws.Steps.{multiple_mod, mod_multiple, multiple_gap, multiple_sub, multiple_steps}
 use Rattle.runs.specs.Laws.Canon.{from_weaken}
 use Rattle.model.specs.Limits.{reach}
-use Rattle.model.specs.Columns.{Device, height, columns, kind, top}
+use Rattle.model.specs.Columns.{Device, height, columns, kind}
 use Rattle.model.specs.Tasks.{Block}
 use Rattle.model.specs.Book.{Book, block_fits, intervals}
 use Rattle.model.specs.Blocks.{Solid}

@@ -1,8 +1,7 @@
 -- Answers of `listing::arrays::copy_runs`.
-use Prim.Native.Nat.{◌-◌, ◌≤◌}
 use mathlib.Core.Path.{◌≡◌}
 use native.Mathlib.Omega.{arith}
-use Rattle.listing.specs.Laws.Arrays.{Copying, copy_start, copy_next}
+use Rattle.listing.specs.Laws.Arrays.{copy_start, copy_next}
 use Rattle.listing.proofs.arrays.copy_runs.Goals as goal
 
 pub loop-i-init : goal.loop-i-init

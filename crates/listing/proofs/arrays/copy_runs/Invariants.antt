@@ -1,6 +1,6 @@
 -- `listing::arrays::copy_runs` meets its contract, one run after the other. Assumes nothing.
 use Prim.Native.Nat.{◌-◌, ◌≤◌}
-use Rattle.listing.specs.Laws.Arrays.{Copying, copy_start, copy_next}
+use Rattle.listing.specs.Laws.Arrays.{Copying}
 use Rattle.listing.proofs.arrays.copy_runs.Given as goal
 
 abbrev pub invariant-loop-i : goal.invariant-loop-i

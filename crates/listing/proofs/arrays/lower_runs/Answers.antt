@@ -1,8 +1,7 @@
 -- Answers of `listing::arrays::lower_runs`.
-use Prim.Native.Nat.{◌-◌, ◌≤◌}
 use mathlib.Core.Path.{◌≡◌}
 use native.Mathlib.Omega.{arith}
-use Rattle.listing.specs.Laws.Arrays.{Lowering, lower_start, lower_next}
+use Rattle.listing.specs.Laws.Arrays.{lower_start, lower_next}
 use Rattle.listing.proofs.arrays.lower_runs.Goals as goal
 
 pub loop-i-init : goal.loop-i-init

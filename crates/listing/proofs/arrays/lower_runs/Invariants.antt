@@ -1,6 +1,6 @@
 -- `listing::arrays::lower_runs` meets its contract, one run after the other. Assumes nothing.
 use Prim.Native.Nat.{◌-◌, ◌≤◌}
-use Rattle.listing.specs.Laws.Arrays.{Lowering, lower_start, lower_next}
+use Rattle.listing.specs.Laws.Arrays.{Lowering}
 use Rattle.listing.proofs.arrays.lower_runs.Given as goal
 
 abbrev pub invariant-loop-i : goal.invariant-loop-i

@@ -15,11 +15,11 @@ pub lower_runs-requires : goal.lower_runs-requires
 lower_runs-requires c =
     let s = c in
     let z = c.lifted_bottoms-n in
-    lowerable s.args.record.now s.args.task.now s.args.p z.new.lasts z.new.1.1.1.1.0 z.result
-    (record { firsts = z.auto.lasts ∙ s.requires.1.firsts; lasts = z.auto.1.1.1.1.0 ∙ s.requires.1.lasts }) z.ensures
+    lowerable s.args.record.now s.args.task.now s.args.p z.new.firsts z.new.lasts z.result
+    (record { firsts = z.auto.firsts ∙ s.requires.1.firsts; lasts = z.auto.lasts ∙ s.requires.1.lasts }) z.ensures
 
 pub returns : goal.returns
 returns c =
     let s = c in
     let z = c.lifted_bottoms-n in
-    ranged s.args.record.now s.args.task.now s.args.p z.new.lasts z.new.1.1.1.1.0 z.result c.lower_runs.new.firsts c.lower_runs.new.lasts s.requires.0 z.ensures c.lower_runs.ensures
+    ranged s.args.record.now s.args.task.now s.args.p z.new.firsts z.new.lasts z.result c.lower_runs.new.firsts c.lower_runs.new.lasts s.requires.0 z.ensures c.lower_runs.ensures

@@ -1,5 +1,4 @@
 -- Answers of `listing::columns::lifted_bottoms`.
-use Prim.Native.Nat.{◌-◌, ◌≤◌}
 use mathlib.Core.Path.{refl, sym, ◌∙◌}
 use native.Mathlib.Omega.{arith}
 use Rattle.model.specs.Tasks.{blocks}
@@ -48,8 +47,8 @@ loop-k-preserved c =
     let a = c in
     let z = c.meet_next-list in (
       z.ensures,
-      record { firsts = z.auto.highs ∙ a.loop-k.invariant.1.firsts; lasts = z.auto.1.1.1.1.1.1.0 ∙ a.loop-k.invariant.1.lasts },
-      record { firsts = z.auto.1.1.1.1.1.1.1.0 ∙ a.loop-k.invariant.2.firsts; lasts = z.auto.1.1.1.1.1.1.1.1.0 ∙ a.loop-k.invariant.2.lasts },
+      record { firsts = z.auto.firsts ∙ a.loop-k.invariant.1.firsts; lasts = z.auto.lasts ∙ a.loop-k.invariant.1.lasts },
+      record { firsts = z.auto.lows ∙ a.loop-k.invariant.2.firsts; lasts = z.auto.highs ∙ a.loop-k.invariant.2.lasts },
       omega (arith, c.loop-k-test.true),
     )
 

@@ -1,13 +1,8 @@
 -- Answers of `listing::columns::on_columns`.
-use Prim.Native.Nat.{ℕ, ◌-◌, ◌<◌}
 use native.Mathlib.Omega.{arith}
 use Rattle.model.specs.Tasks.{blocks}
 use Rattle.listing.specs.Laws.Column.{block_ready, column_small, on_next, on_none, on_all}
 use Rattle.listing.proofs.columns.on_columns.Goals as goal
-
-small : (c : goal.After-block_at-b invariant-loop decreases-loop) → c.block_at-b.result.column < 64
-unfolding blocks
-small c = column_small c.args.record.now c.args.task.now c.requires.0 c.loop-k.k c.block_at-b.result c.loop-k-test.true c.block_at-b.ensures
 
 pub loop-k-init : goal.loop-k-init
 loop-k-init c = λ j l. absurd (omega arith)
@@ -17,10 +12,12 @@ unfolding blocks
 block_at-b-requires c = block_ready c.args.record.now c.args.task.now c.requires.0 c.loop-k.k c.loop-k-test.true
 
 pub overflow_cast-b : goal.overflow_cast-b
-overflow_cast-b c = omega (arith, small c)
+unfolding blocks
+overflow_cast-b c = let small = column_small c.args.record.now c.args.task.now c.requires.0 c.loop-k.k c.block_at-b.result c.loop-k-test.true c.block_at-b.ensures in omega arith
 
 pub overflow_add-p : goal.overflow_add-p
-overflow_add-p c = omega (arith, small c)
+unfolding blocks
+overflow_add-p c = let small = column_small c.args.record.now c.args.task.now c.requires.0 c.loop-k.k c.block_at-b.result c.loop-k-test.true c.block_at-b.ensures in omega arith
 
 pub of_kind-requires : goal.of_kind-requires
 of_kind-requires c = c.requires.0.sound

@@ -9,10 +9,10 @@ pub nonzero_div-lasts : goal.nonzero_div-lasts
 nonzero_div-lasts c = omega (arith, c.height-step.ensures, height_pos (seen c.block_at.result).kind)
 
 pub overflow_mul-lasts-2 : goal.overflow_mul-lasts-2
-overflow_mul-lasts-2 c = omega (arith, start_small c.height-step.result (div-lasts c))
+overflow_mul-lasts-2 c = omega (arith, start_small c.height-step.result (nonzero_div-lasts c))
 
 pub overflow_add-lasts : goal.overflow_add-lasts
-overflow_add-lasts c = omega (arith, start_small c.height-step.result (div-lasts c))
+overflow_add-lasts c = omega (arith, start_small c.height-step.result (nonzero_div-lasts c))
 
 pub returns : goal.returns
 returns c = start_of c.args.task.now c.args.firsts.now c.args.lasts.now c.block_at.result c.height-step.result c.requires c.block_at.ensures c.height-step.ensures

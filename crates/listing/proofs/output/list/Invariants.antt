@@ -1,7 +1,7 @@
 -- `listing::output::list` meets its contract: the ranges of the columns below p are written, n of them. Assumes nothing.
-use Prim.Native.Nat.{◌+◌, ◌-◌, ◌≤◌, ◌<◌}
+use Prim.Native.Nat.{◌+◌, ◌-◌}
 use Rattle.listing.specs.Arrays.{Room}
-use Rattle.listing.specs.Laws.Output.{Written, written_none, written_length, all_writable, written_next, answer_none, answer_some, few_ranges}
+use Rattle.listing.specs.Laws.Output.{Written}
 use Rattle.listing.proofs.output.list.Given as goal
 
 abbrev pub invariant-loop-p : goal.invariant-loop-p

@@ -1,8 +1,7 @@
 -- Answers of `listing::output::write_ranges`.
-use Prim.Native.Nat.{◌-◌, ◌≤◌}
 use mathlib.Core.Path.{◌≡◌}
 use native.Mathlib.Omega.{arith}
-use Rattle.listing.specs.Laws.Output.{Writing, writing_start, writing_length, writable, writing_next}
+use Rattle.listing.specs.Laws.Output.{writing_start, writing_length, writable, writing_next}
 use Rattle.listing.proofs.output.write_ranges.Goals as goal
 
 pub loop-i-init : goal.loop-i-init

@@ -1,6 +1,6 @@
 -- `listing::output::write_ranges` meets its contract, one range after the other. Assumes nothing.
 use Prim.Native.Nat.{◌-◌, ◌≤◌}
-use Rattle.listing.specs.Laws.Output.{Writing, writing_start, writing_length, writable, writing_next}
+use Rattle.listing.specs.Laws.Output.{Writing}
 use Rattle.listing.proofs.output.write_ranges.Given as goal
 
 abbrev pub invariant-loop-i : goal.invariant-loop-i

@@ -1,8 +1,8 @@
 -- `listing::walk::meet_block` meets its contract: the walk along two lists, by the laws of Laws/Walk. Assumes nothing.
-use Prim.Native.Nat.{◌+◌, ◌-◌, ◌*◌, ◌≤◌, ◌<◌}
+use Prim.Native.Nat.{◌+◌, ◌-◌}
 use Rattle.task.specs.Blocks.{seen}
-use Rattle.listing.specs.Arrays.{read, Room, Meetable, bottom_at, top_at}
-use Rattle.listing.specs.Laws.Walk.{Walking, walking_start, walking_short, puttable, walking_left, walking_right, walking_done}
+use Rattle.listing.specs.Arrays.{read, Room}
+use Rattle.listing.specs.Laws.Walk.{Walking}
 use Rattle.listing.proofs.walk.meet_block.Given as goal
 
 -- where the walk is at run i and interval j, n runs are written
