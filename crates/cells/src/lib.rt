@@ -1,5 +1,6 @@
 // The cells of a column as bits: bit k of the column's words is set where cell k is held.
 #![tactic(auto)]
+
 ghost use Rattle.std.specs.Prelude.{◌≡◌, Bool, cond, [], ℕ, ◌+◌, ◌-◌, ◌*◌, ◌≤◌, ◌<◌, length, ltb};
 ghost use Rattle.model.specs.Bounded.{sum_below};
 ghost use Rattle.model.specs.Record.{column_part};

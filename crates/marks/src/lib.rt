@@ -1,5 +1,6 @@
 // The blocks of a task, marked in the bits of a record's columns.
 #![tactic(auto)]
+
 ghost use Rattle.std.specs.Prelude.{◌≡◌, true};
 ghost use Rattle.model.specs.Tasks.{sized, well_formed};
 ghost use Rattle.model.specs.Blocks.{Solid};

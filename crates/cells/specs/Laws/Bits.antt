@@ -1,5 +1,5 @@
 -- The binary digits of what the machine's operations give. Assumes nothing.
-use Rattle.std.specs.Prelude.{ℕ, zero, suc, ◌+◌, ◌-◌, ◌*◌, ◌/◌, ◌%◌, ◌^◌, ◌<◌, min, max, ◌≡◌, refl, true, false, not, ◌&&◌, ◌||◌, leb, ltb}
+use Rattle.std.specs.Prelude.{ℕ, zero, suc, ◌+◌, ◌-◌, ◌*◌, ◌/◌, ◌%◌, ◌^◌, ◌<◌, min, max, ◌≡◌, refl, false, not, ◌&&◌, ◌||◌, leb, ltb}
 use Rattle.std.proofs.Common.{sym, ap, ap₂, ◌∙◌, true≢false, arith, pow-suc, add_comm, zero-add, mul_assoc, add-one, lt-ltb, le-ltb, le-leb, pow_pos, shr-shr}
 use Rattle.std.proofs.Math.Nat.{zero-min, min-zero, suc-min-suc, zero-max, max-zero, suc-max-suc, sub-zero}
 use Rattle.std.proofs.Math.Dec.{leb-suc-suc}

@@ -12,7 +12,7 @@ use Rattle.runs.specs.Laws.Tests.{lt_or_ge}
 use Rattle.model.specs.Limits.{reach, rows_at, columns_at, kinds_at, max_columns, max_kind, max_rows}
 use Rattle.model.specs.Columns.{columns, kind, cells, top, top_in, cells_in, height, device_ok}
 use Rattle.model.specs.Tasks.{word, Block, blocks, block, well_formed}
-use Rattle.model.specs.Book.{Book, placed, held, free, block_fits, fits}
+use Rattle.model.specs.Book.{Book, placed, held, block_fits, fits}
 use Rattle.model.specs.Record.{part, device_of}
 use Rattle.model.proofs.Laws.Bounded.{all_to, all_of, is_false, same_test, true_or_false, clash}
 use Rattle.model.proofs.Laws.Columns.{height_pos, height_two, top_le}

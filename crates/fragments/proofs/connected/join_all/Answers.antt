@@ -1,5 +1,5 @@
 -- Answers of `fragments::connected::join_all`.
-use Prim.Native.Nat.{◌+◌, ◌-◌, ◌<◌}
+use Prim.Native.Nat.{◌+◌, ◌<◌}
 use Rattle.model.specs.Columns.{columns as columns_of}
 use Rattle.model.specs.Record.{device_of}
 use Rattle.model.proofs.Laws.Sound.{sound_length}
@@ -32,7 +32,7 @@ join_next-joins-requires c =
       record { falls = w.falls; few = omega (arith, w.size, start.requires.0.few) },
       start.requires.1,
       l,
-      walking_room start.args.record.now start.requires.1 start.args.parents.now turn.parents-1 turn.joins turn.base turn.c w l start.requires.2,
+      walking_room start.args.record.now start.requires.1 start.args.parents.now turn.parents turn.joins turn.base turn.c w l start.requires.2,
     )
 
 pub overflow_add-joins : goal.overflow_add-joins
@@ -84,7 +84,7 @@ loop-c-preserved c =
     let w = turn.invariant in
     let l : turn.c + 1 < columns_of (device_of start.args.record.now) = omega (arith, columns_byte start.args.record.now start.requires.1 byte.result byte.ensures.is) in
     rw c.byte-base.ensures.is
-    (walking_on start.args.record.now start.requires.1 start.args.parents.now turn.parents-1 turn.joins turn.base turn.c w l start.requires.2
+    (walking_on start.args.record.now start.requires.1 start.args.parents.now turn.parents turn.joins turn.base turn.c w l start.requires.2
     join_next.new.parents join_next.result join_next.ensures.1 join_next.ensures.0)
 
 pub shape_of-parents : goal.shape_of-parents

@@ -1,5 +1,5 @@
 -- `fragments::connected::join_all` meets its contract. Assumes nothing.
-use Prim.Native.Nat.{◌+◌, ◌-◌, ◌<◌}
+use Prim.Native.Nat.{◌-◌}
 use Rattle.fragments.specs.OnBytes.{Walking}
 use Rattle.fragments.proofs.connected.join_all.Given as goal
 

@@ -60,6 +60,16 @@ byte-rights-requires c =
     let start = c in
     omega (arith, few_columns start.args.record.now start.requires.1, sound_length start.args.record.now start.requires.1)
 
+pub slice_bounds-sweep-end : goal.slice_bounds-sweep-end
+slice_bounds-sweep-end c =
+    let start = c in
+    omega (arith, few_columns start.args.record.now start.requires.1, sound_length start.args.record.now start.requires.1)
+
+pub slice_bounds-sweep-end-2 : goal.slice_bounds-sweep-end-2
+slice_bounds-sweep-end-2 c =
+    let start = c in
+    omega (arith, few_columns start.args.record.now start.requires.1, sound_length start.args.record.now start.requires.1)
+
 pub sweep-requires : goal.sweep-requires
 sweep-requires c =
     let start = c in

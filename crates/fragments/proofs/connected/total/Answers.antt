@@ -1,6 +1,6 @@
 -- Answers of `fragments::connected::total`.
 use mathlib.Core.Path.{◌≡◌, sym}
-use Prim.Native.Nat.{◌-◌, ◌≤◌, ◌<◌}
+use Prim.Native.Nat.{◌<◌}
 use Rattle.model.specs.Columns.{columns as columns_of}
 use Rattle.model.specs.Record.{device_of}
 use Rattle.model.proofs.Laws.Sound.{sound_length}

@@ -1,6 +1,6 @@
 -- `fragments::connected::total` meets its contract. Assumes nothing.
-use mathlib.Core.Path.{◌≡◌, sym}
-use Prim.Native.Nat.{◌-◌, ◌≤◌, ◌<◌}
+use mathlib.Core.Path.{◌≡◌}
+use Prim.Native.Nat.{◌-◌, ◌≤◌}
 use Rattle.fragments.specs.Nodes.{base}
 use Rattle.fragments.specs.OnBytes.{runs_of}
 use Rattle.fragments.proofs.connected.total.Given as goal

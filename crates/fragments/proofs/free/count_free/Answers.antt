@@ -1,6 +1,6 @@
 -- Answers of `fragments::free::count_free`.
 use mathlib.Core.Path.{◌≡◌, refl, sym, ◌∙◌}
-use Prim.Native.Nat.{◌*◌, ◌-◌, ◌≤◌, ◌<◌}
+use Prim.Native.Nat.{◌<◌}
 use Rattle.model.specs.Bounded.{sum_below}
 use Rattle.model.specs.Columns.{columns as columns_of}
 use Rattle.model.specs.Record.{device_of, book_of}

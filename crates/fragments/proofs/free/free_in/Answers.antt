@@ -1,5 +1,4 @@
 -- Answers of `fragments::free::free_in`.
-use Prim.Native.Nat.{◌-◌}
 use Rattle.fragments.specs.Laws.Free.{summing_start, summing_order, summing_on, summing_end}
 use native.Mathlib.Omega.{arith}
 use Rattle.fragments.proofs.free.free_in.Goals as goal

@@ -1,8 +1,6 @@
 -- `fragments::sweep::meet`: an edge that is not there, one that brings two sets together, or one within a set. Assumes nothing.
-use mathlib.Core.Path.{◌≡◌, sym, ◌∙◌}
-use mathlib.Core.Bool.{true}
+use mathlib.Core.Path.{sym, ◌∙◌}
 use native.Mathlib.Omega.{arith}
-use borrow.Author.Tests.{not-true, not-false}
 use Rattle.fragments.specs.Laws.Sweep.{joins_none, joins_one}
 use Rattle.fragments.proofs.sweep.meet.Goals as goal
 
@@ -16,11 +14,11 @@ returns-then-unite c =
     let united = c.unite in
     let left = c.if-not-shares.false in
     let shared = c.shares in
-    (joins_one _ _ _ _ _ _ (sym shared.ensures ∙ not-false shared.result left) united.ensures.0 (sym c.if-unite.true ∙ united.ensures.1), omega arith)
+    (joins_one _ _ _ _ _ _ (sym shared.ensures ∙ left) united.ensures.0 (sym c.if-unite.true ∙ united.ensures.1), omega arith)
 
 pub returns : goal.returns
 returns c =
     let united = c.unite in
     let left = c.if-not-shares.false in
     let shared = c.shares in
-    (joins_one _ _ _ _ _ _ (sym shared.ensures ∙ not-false shared.result left) united.ensures.0 (sym c.if-unite.false ∙ united.ensures.1), omega arith)
+    (joins_one _ _ _ _ _ _ (sym shared.ensures ∙ left) united.ensures.0 (sym c.if-unite.false ∙ united.ensures.1), omega arith)

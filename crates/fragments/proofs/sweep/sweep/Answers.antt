@@ -1,10 +1,10 @@
 -- Answers of `fragments::sweep::sweep`.
 use mathlib.Core.Logic.{inl, inr}
-use Prim.Native.Nat.{◌+◌, ◌-◌, ◌<◌}
+use Prim.Native.Nat.{◌<◌}
 use native.Mathlib.Omega.{arith}
 use borrow.Author.Rules.{rules}
 use Rattle.runs.specs.Intervals.{interval}
-use Rattle.fragments.specs.Sweep.{sides, Sweeping}
+use Rattle.fragments.specs.Sweep.{sides}
 use Rattle.fragments.specs.Laws.Sweep.{sweeping_start, sweeping_left, sweeping_right, sweeping_end}
 use Rattle.fragments.proofs.sweep.sweep.Goals as goal
 
@@ -74,7 +74,7 @@ loop-i-preserved-then-x-y c =
     let read2 = c.read-y in
     let meet = c.meet-joins in
     let lj : turn.j < start.args.rights = first.true in
-    sweeping_left (sides start.args.left.now start.args.right.now start.args.lefts start.args.rights start.args.base) start.args.parents.now turn.parents-1 turn.joins turn.i turn.j turn.invariant test.true lj
+    sweeping_left (sides start.args.left.now start.args.right.now start.args.lefts start.args.rights start.args.base) start.args.parents.now turn.parents turn.joins turn.i turn.j turn.invariant test.true lj
     (omega (arith, start.requires.3), omega (arith, start.requires.3))
     (interval read.result.bottom read.result.top) (interval read2.result.bottom read2.result.top)
     read.ensures.is read2.ensures.is meet.new.parents meet.result meet.ensures.1 meet.ensures.0
@@ -106,7 +106,7 @@ loop-i-preserved c =
     let read2 = c.read-y in
     let meet = c.meet-joins in
     let lj : turn.j < start.args.rights = first.true in
-    sweeping_right (sides start.args.left.now start.args.right.now start.args.lefts start.args.rights start.args.base) start.args.parents.now turn.parents-1 turn.joins turn.i turn.j turn.invariant test.true lj
+    sweeping_right (sides start.args.left.now start.args.right.now start.args.lefts start.args.rights start.args.base) start.args.parents.now turn.parents turn.joins turn.i turn.j turn.invariant test.true lj
     (omega (arith, start.requires.3), omega (arith, start.requires.3))
     (interval read.result.bottom read.result.top) (interval read2.result.bottom read2.result.top)
     read.ensures.is read2.ensures.is meet.new.parents meet.result meet.ensures.1 meet.ensures.0
@@ -121,7 +121,7 @@ pub returns-else-j-rights : goal.returns-else-j-rights
 returns-else-j-rights c =
     let start = c in
     let turn = c.loop-i in (
-      sweeping_end (sides start.args.left.now start.args.right.now start.args.lefts start.args.rights start.args.base) start.args.parents.now turn.parents-1 turn.joins turn.i turn.j turn.invariant (inr c.if-j-rights.false),
+      sweeping_end (sides start.args.left.now start.args.right.now start.args.lefts start.args.rights start.args.base) start.args.parents.now turn.parents turn.joins turn.i turn.j turn.invariant (inr c.if-j-rights.false),
       omega (arith, turn.invariant.few, turn.invariant.in_left, turn.invariant.in_right),
     )
 

@@ -1,5 +1,5 @@
 -- `fragments::sweep::sweep` meets its contract. Assumes nothing.
-use Prim.Native.Nat.{◌+◌, ◌-◌, ◌<◌}
+use Prim.Native.Nat.{◌+◌, ◌-◌}
 use Rattle.fragments.specs.Sweep.{sides, Sweeping}
 use Rattle.fragments.proofs.sweep.sweep.Given as goal
 
