@@ -1,5 +1,6 @@
 -- `line::call::meaning` meets its contract: each arm is the model's test of the same letter. Assumes nothing.
-use borrow.Author.Tests.{ne_eqb}
+use borrow.Author.Rules.{rules}
+use borrow.Author.Tests.{tests}
 use mir.Facts.{to_z-of_z}
 use Rattle.model.specs.Sheet.{is, kind_field, call_of}
 use Rattle.line.specs.Calls.{block_said}
@@ -43,13 +44,4 @@ returns-in-82 c =
 
 pub returns-in_default : goal.returns-in_default
 unfolding call_of is
-returns-in_default c =
-    let r = c.in-66.rest in
-    rw (
-      ne_eqb _ _ r.0.0.0.0.0.1,
-      ne_eqb _ _ r.0.0.0.0.1,
-      ne_eqb _ _ r.0.0.0.1,
-      ne_eqb _ _ r.0.0.1,
-      ne_eqb _ _ r.0.1,
-      ne_eqb _ _ r.1,
-    )
+returns-in_default c = search (tests, rules)

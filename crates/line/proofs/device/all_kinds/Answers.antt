@@ -1,6 +1,5 @@
 -- Answers of `line::device::all_kinds`.
-use mathlib.Core.Path.{◌≡◌, refl, sym, ap, ◌∙◌}
-use Prim.Native.Nat.{◌≤◌, ◌-◌}
+use mathlib.Core.Path.{refl, sym, ap, ◌∙◌}
 use native.Mathlib.Omega.{arith}
 use Rattle.line.specs.Fields.{kind_said}
 use Rattle.line.specs.Laws.Device.{letter_known, letter_unknown, letters_end}

@@ -1,5 +1,5 @@
 -- `line::device::all_kinds` meets its contract. The invariant: all letters are kinds where those from i on are. Assumes nothing.
-use mathlib.Core.Path.{◌≡◌, refl, sym, ap, ◌∙◌}
+use mathlib.Core.Path.{◌≡◌}
 use Prim.Native.Nat.{◌≤◌, ◌-◌}
 use lib.ListN.{length, drop}
 use Rattle.model.specs.Sheet.{kind_letters}

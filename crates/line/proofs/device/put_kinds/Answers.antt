@@ -1,8 +1,7 @@
 -- Answers of `line::device::put_kinds`.
-use mathlib.Core.Path.{◌≡◌, refl, ◌∙◌}
-use Prim.Native.Nat.{◌≤◌, ◌-◌}
+use mathlib.Core.Path.{refl, ◌∙◌}
 use native.Mathlib.Omega.{arith}
-use lib.ListN.{length, take, length-set}
+use lib.ListN.{length-set}
 use Rattle.line.specs.Laws.Device.{kinds_none, kinds_put, kinds_all}
 use Rattle.line.proofs.device.put_kinds.Goals as goal
 

@@ -1,7 +1,7 @@
 -- `line::device::put_kinds` meets its contract. The invariant: the kinds of the letters passed stand at the front. Assumes nothing.
-use mathlib.Core.Path.{◌≡◌, refl, ◌∙◌}
+use mathlib.Core.Path.{◌≡◌}
 use Prim.Native.Nat.{◌≤◌, ◌-◌}
-use lib.ListN.{length, take, length-set}
+use lib.ListN.{length, take}
 use Rattle.model.specs.Parts.{splice}
 use Rattle.line.specs.Device.{kinds_of}
 use Rattle.line.proofs.device.put_kinds.Given as goal

@@ -1,5 +1,6 @@
 -- `line::fields::kind_letter` meets its contract: each arm is the test of the same letter. Assumes nothing.
-use borrow.Author.Tests.{ne_eqb}
+use borrow.Author.Rules.{rules}
+use borrow.Author.Tests.{tests}
 use Rattle.model.specs.Sheet.{kind_letter}
 use Rattle.line.proofs.fields.kind_letter.Goals as goal
 
@@ -17,6 +18,4 @@ returns-in-68 c = rw c.in-68.is
 
 pub returns-in_default : goal.returns-in_default
 unfolding kind_letter
-returns-in_default c =
-    let r = c.in-67.rest in
-    rw (ne_eqb _ _ r.0.0.1, ne_eqb _ _ r.0.1, ne_eqb _ _ r.1)
+returns-in_default c = search (tests, rules)

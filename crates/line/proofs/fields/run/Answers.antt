@@ -1,6 +1,5 @@
 -- Answers of `line::fields::run`.
-use mathlib.Core.Path.{◌≡◌, sym, ◌∙◌}
-use Prim.Native.Nat.{◌≤◌, ◌-◌}
+use mathlib.Core.Path.{sym, ◌∙◌}
 use native.Mathlib.Omega.{arith}
 use Rattle.line.specs.Laws.Fields.{too_low, too_high, too_great, one_digit, digits_end}
 use Rattle.line.proofs.fields.run.Goals as goal

@@ -1,5 +1,5 @@
 -- `line::fields::run` meets its contract. The invariant: what the digits from i on add to v is what all of them add to 0. Assumes nothing.
-use mathlib.Core.Path.{◌≡◌, sym, ◌∙◌}
+use mathlib.Core.Path.{◌≡◌}
 use Prim.Native.Nat.{◌≤◌, ◌-◌}
 use lib.ListN.{length, drop}
 use Rattle.line.specs.Fields.{most_read, digits_of}

@@ -4,7 +4,4 @@ use Rattle.line.specs.Laws.Print.{printed_part}
 use Rattle.line.proofs.print.print_text.Goals as goal
 
 pub returns : goal.returns
-returns c =
-    let y = c in
-    let a = y.args in
-    printed_part a.out-1.now a.text.now a.at refl y.copy.ensures
+returns c = printed_part c.args.out.now c.args.text.now c.args.at refl c.copy.ensures
