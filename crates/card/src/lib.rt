@@ -3,6 +3,7 @@
 // In a contract `.old` is what lies behind a `&mut` as the call starts, and `.new` as it returns. What is lent as `&` is kept by its type.
 // `on_record` is also the step of the theorem about whole histories (model/proofs/Laws/History.antt).
 #![tactic(auto)]
+
 ghost use Rattle.std.specs.Prelude.{◌≡◌, true, [], leb, length};
 ghost use Rattle.model.specs.Limits.{max_running};
 ghost use Rattle.model.specs.Book.{fits_at};
@@ -155,13 +156,7 @@ fn check_place(record: &[u8], task: &[u8], number: u32, column: u32, bottom: i32
 }
 
 // MODEL 12.4: enters a task as running at a position, and takes its cells.
-pub fn card_place(
-    record: &mut [u8],
-    task: &[u8],
-    number: u32,
-    column: u32,
-    bottom: i32,
-) -> i32
+pub fn card_place(record: &mut [u8], task: &[u8], number: u32, column: u32, bottom: i32) -> i32
     ensures { Changes (on_record «record».old (place task.now number column bottom)) result «record».new }
 {
     match check_place(record, task, number, column, bottom) {

@@ -1,7 +1,7 @@
 -- Where free and not free change in a column: the ends of its maximal free runs, as the set bits of words and as a column's part. Assumes nothing.
 use Rattle.std.specs.Prelude.{ℕ, zero, suc, ◌+◌, ◌*◌, ◌/◌, ◌%◌, ◌≤◌, ◌<◌, ◌≡◌, Bool, true, false, not, ◌&&◌, List, [], ◌∷◌, ◌++◌, map, ltb, length}
 use Rattle.model.specs.Limits.{max_intervals, column_size, words}
-use Rattle.runs.specs.Intervals.{Interval, intervals as maximal-runs}
+use Rattle.runs.specs.Intervals.{Interval, intervals as maximal_runs}
 use Rattle.model.specs.Record.{padded, column_part}
 use Rattle.model.proofs.Laws.Cells.{scaled}
 use Rattle.cells.specs.Bits.{most_words, word_bits, is_set, cell_bit}
@@ -55,7 +55,7 @@ free_below ws n k = ltb k n && is_free ws k
 
 -- the free intervals of a column of n cells of height h
 unfoldable pub bit_intervals : List ℕ → ℕ → ℕ → List Interval
-bit_intervals ws n h = map (scaled h) (maximal-runs (is_free ws) n)
+bit_intervals ws n h = map (scaled h) (maximal_runs (is_free ws) n)
 
 -- what a column's cells must be, that its part can be written: p has its size, the words hold the n cells, and the ends are two-byte numbers
 pub record ColumnBits (ws : List ℕ) (n h : ℕ) (p : List ℕ) : Type 0 where

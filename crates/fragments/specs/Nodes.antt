@@ -1,7 +1,7 @@
 -- MODEL 22: the runs of free cells of a card, one node for each, and the edges between those of neighbouring columns that share a half row.
 -- h c is the height of the cells of column c, R c are its runs. Assumes nothing.
 use Rattle.std.specs.Prelude.{ℕ, suc, ◌*◌, ◌-◌, List, length, get_or}
-use Rattle.runs.specs.Intervals.{Interval, interval, intervals as maximal-runs}
+use Rattle.runs.specs.Intervals.{Interval, interval, intervals as maximal_runs}
 use Rattle.model.specs.Bounded.{sum_below, join_below}
 use Rattle.model.specs.Columns.{Device, cells}
 use Rattle.model.specs.Book.{Book, cell_free}
@@ -9,7 +9,7 @@ use Rattle.fragments.specs.Sweep.{Sides, edges}
 
 -- the maximal runs of free cells of column c
 unfoldable pub free_runs : Device → Book → ℕ → List Interval
-free_runs d b c = maximal-runs (cell_free d b c) (cells d c)
+free_runs d b c = maximal_runs (cell_free d b c) (cells d c)
 
 -- the node of the first run of column c: as many runs stand in the columns before it
 unfoldable pub base : (ℕ → List Interval) → ℕ → ℕ

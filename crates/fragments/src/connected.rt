@@ -8,7 +8,7 @@ ghost use Rattle.model.specs.Sound.{sound, count_of};
 ghost use Rattle.column.specs.Laws.Lent.{lent};
 ghost use Rattle.sets.specs.Forest.{Parents, Joins};
 ghost use Rattle.fragments.specs.Sweep.{edges, sides};
-ghost use Rattle.fragments.specs.Nodes.{base as base-of, card_edges};
+ghost use Rattle.fragments.specs.Nodes.{base as base_of, card_edges};
 ghost use Rattle.fragments.specs.OnBytes.{runs_of};
 
 use crate::NODES;
@@ -19,7 +19,7 @@ use words::byte;
 // How many intervals a record has.
 fn total(record: &[u8]) -> usize
     requires { sound «record».now ≡ true }
-    ensures { (result ≡ base-of (runs_of «record».now) (columns_of (device_of «record».now))) × (result ≤ max_columns * max_intervals) }
+    ensures { (result ≡ base_of (runs_of «record».now) (columns_of (device_of «record».now))) × (result ≤ max_columns * max_intervals) }
 {
     let columns = byte(record, model::COLUMNS_AT);
     let mut n: usize = 0;
@@ -57,7 +57,7 @@ fn join_next(parents: &mut [u16], record: &[u8], c: usize, base: usize) -> u32
 
 // Joins what touches in all neighbouring columns.
 fn join_all(parents: &mut [u16], record: &[u8]) -> u32
-    requires { Parents parents.old × (sound «record».now ≡ true) × (base-of (runs_of «record».now) (columns_of (device_of «record».now)) ≤ length parents.old) }
+    requires { Parents parents.old × (sound «record».now ≡ true) × (base_of (runs_of «record».now) (columns_of (device_of «record».now)) ≤ length parents.old) }
     ensures { Joins (card_edges (heights (device_of «record».now)) (runs_of «record».now) (columns_of (device_of «record».now))) parents.old parents.new result }
 {
     let columns = byte(record, model::COLUMNS_AT);

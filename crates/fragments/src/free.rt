@@ -3,7 +3,7 @@ ghost use Rattle.std.specs.Prelude.{◌≡◌, true, ◌*◌, ◌/◌, ◌≤◌
 ghost use Rattle.runs.specs.Intervals.{Apart};
 ghost use Rattle.model.specs.Limits.{max_columns, max_intervals, whole_degree};
 ghost use Rattle.model.specs.Columns.{columns as columns_of};
-ghost use Rattle.model.specs.Fragments.{heights, free_cells, degree as degree-from};
+ghost use Rattle.model.specs.Fragments.{heights, free_cells, degree as degree_from};
 ghost use Rattle.model.specs.Record.{device_of, book_of};
 ghost use Rattle.model.specs.Sound.{sound, count_of};
 ghost use Rattle.column.specs.Part.{Part, listed_in};
@@ -69,7 +69,7 @@ pub fn count_free(record: &[u8]) -> u32
 // MODEL 22.4: the degree. The bounds only keep it within 32 bits.
 pub fn degree_of(sets: u32, free: u32) -> u32
     requires { sets ≤ max_columns * max_intervals }
-    ensures { (result ≡ degree-from sets free) × (result ≤ whole_degree * (max_columns * max_intervals)) }
+    ensures { (result ≡ degree_from sets free) × (result ≤ whole_degree * (max_columns * max_intervals)) }
 {
     if free <= 1 {
         return 0;

@@ -2,7 +2,7 @@
 -- All is said of half rows, and at the end of cells too. That it is the same, since blocks are whole cells (MODEL 5.4), is proved in Laws.Cells.
 -- Assumes nothing.
 use Rattle.std.specs.Prelude.{ℕ, ◌+◌, ◌-◌, ◌*◌, ◌%◌, Bool, false, not, ◌&&◌, List, leb, ltb, eqb, ℤ, pos, negsuc}
-use Rattle.runs.specs.Intervals.{Interval, intervals as maximal-runs}
+use Rattle.runs.specs.Intervals.{Interval, intervals as maximal_runs}
 use Rattle.model.specs.Limits.{reach}
 use Rattle.model.specs.Bounded.{all_below, any_below, any_in}
 use Rattle.model.specs.Columns.{Device, columns, kind, cells, top, height}
@@ -74,7 +74,7 @@ fits_at d b t p (negsuc y) = false
 
 -- MODEL 7.1 to 7.3: the intervals of column c
 unfoldable pub intervals : Device → Book → ℕ → List Interval
-intervals d b c = maximal-runs (free d b c) (top d c)
+intervals d b c = maximal_runs (free d b c) (top d c)
 
 -- ---- by cells: cell k is the half rows from height × k on, as many as the height (MODEL 3.5)
 

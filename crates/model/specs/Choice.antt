@@ -1,6 +1,6 @@
 -- MODEL 11: n and s of a position, and the choice. Assumes nothing.
 use Rattle.std.specs.Prelude.{ℕ, zero, suc, ◌*◌, ◌-◌, Bool, not, cond, ◌&&◌, List, leb, ltb, eqb, length}
-use Rattle.runs.specs.Intervals.{Interval, intervals as maximal-runs}
+use Rattle.runs.specs.Intervals.{Interval, intervals as maximal_runs}
 use Rattle.model.specs.Bounded.{any_below, sum_below, sum_in}
 use Rattle.model.specs.Columns.{Device, columns, half_rows}
 use Rattle.model.specs.Book.{Book, Placed, placed, covered, fits, intervals}
@@ -29,7 +29,7 @@ stretch B C L = sum_below C (λ c. sum_in (span B c) (L c))
 
 -- MODEL 11.3: what is left, as intervals, of the interval i of column c: the maximal runs of its half rows that no block covers
 unfoldable pub left_in : Placed → ℕ → Interval → List Interval
-left_in B c i = maximal-runs (λ z. leb i.bottom z && not (covered B c z)) i.top
+left_in B c i = maximal_runs (λ z. leb i.bottom z && not (covered B c z)) i.top
 
 -- MODEL 11.3: their number, if the interval holds a block
 unfoldable pub remaining : Placed → ℕ → Interval → ℕ

@@ -2,7 +2,7 @@
 -- offset, computed from the definitions. So the layout is seen in two tables of plain numbers. Assumes nothing.
 use Rattle.std.specs.Prelude.{ℕ, suc, ◌≡◌, refl, cond, List, [], ◌∷◌, eqb, ℤ, pos, length}
 use Rattle.runs.specs.Runs.{runs, push}
-use Rattle.runs.specs.Intervals.{intervals as maximal-runs}
+use Rattle.runs.specs.Intervals.{intervals as maximal_runs}
 use Rattle.model.specs.Bounded.{all_below, any_below, join_below, any_in}
 use Rattle.model.specs.Columns.{height, cells_in, top_in, columns, kind, top}
 use Rattle.model.specs.Tasks.{word, lifted, blocks, block, sized, block_ok, follows, well_formed}
@@ -91,7 +91,7 @@ pub example_record : (seen [] ≡ record { answers = []; size = 29188; bytes = b
     × (seen line_8 ≡ record { answers = pos 0 ∷ []; size = 29188; bytes = after })
 unfolding K3 lines_4_6 line_8 before after non_zero seen block_bytes
     all_below any_below join_below any_in
-    runs push maximal-runs
+    runs push maximal_runs
     height cells_in top_in columns kind top
     word lifted blocks block sized block_ok follows well_formed
     placed covers covered held free block_fits fits fits_at intervals

@@ -1,7 +1,7 @@
 -- MODEL 19: the small cards K1 to K18, one table with one theorem about it (MODEL 21.3), computed from the definitions. Assumes nothing.
 use Rattle.std.specs.Prelude.{ℕ, ◌-◌, ◌≡◌, refl, List, [], ◌∷◌, ◌++◌, map, ℤ, pos, negsuc, neg_ℤ, replicate}
 use Rattle.runs.specs.Runs.{runs, push}
-use Rattle.runs.specs.Intervals.{intervals as maximal-runs}
+use Rattle.runs.specs.Intervals.{intervals as maximal_runs}
 use Rattle.sets.specs.Graph.{touches, met, unmet, classes, set_count}
 use Rattle.model.specs.Limits.{list_room}
 use Rattle.model.specs.Bounded.{all_below, any_below, sum_below, join_below, those_below, all_in, any_in, sum_in, join_in}
@@ -238,7 +238,7 @@ pub small_cards : map (λ (r : Row). r.found) table ≡ map (λ (r : Row). r.sta
 unfolding K1 K2 K3 K4 K5 K6 K7 C_2 C_4 B_5 lines_4_6 line_8 K4_task K5_task held_2_4 held_2_6 K8_touching K8_apart K9_task with_task minus_5
     K14 K15 K16 held_4_6 two_tasks held_0_4 all_but_two held_0_2 table listed answers left score each_block spot s_by_each_block by_each_block three block_bytes
     all_below any_below sum_below join_below those_below all_in any_in sum_in join_in
-    runs push maximal-runs
+    runs push maximal_runs
     height cells_in top_in columns kind cells top
     word lifted blocks block sized block_ok follows well_formed step
     placed covers covered held free block_fits fits fits_at intervals holds_cell cell_free

@@ -1,6 +1,6 @@
 -- MODEL 7 and 8.3: the intervals of a column, what a record lists, and the runs of half rows that pass a test. Assumes nothing.
 use Rattle.std.specs.Prelude.{ℕ, Bool, List}
-use Rattle.runs.specs.Intervals.{Interval, intervals as maximal-runs}
+use Rattle.runs.specs.Intervals.{Interval, intervals as maximal_runs}
 use Rattle.model.specs.Limits.{column_size}
 use Rattle.model.specs.Columns.{Device, top}
 use Rattle.model.specs.Record.{part, column_at}
@@ -13,4 +13,4 @@ column_list r c = listed_in (part r (column_at c) column_size) (count_of r c)
 
 -- the maximal runs of the half rows of column c that pass f
 abbrev pub runs_of : Device → (ℕ → ℕ → Bool) → ℕ → List Interval
-runs_of d f c = maximal-runs (f c) (top d c)
+runs_of d f c = maximal_runs (f c) (top d c)

@@ -1,4 +1,4 @@
--- What is proved of devices, entries and columns, and of a record that is cleared, entered, left, searched and rebuilt.
+-- What is proved of devices, entries and columns, and of a record that is cleared, entered, searched and rebuilt.
 pub mod Device
 pub mod Clear
 -- entries
@@ -12,7 +12,6 @@ pub mod Cut
 pub mod Join
 -- the record's calls
 pub mod Enter
-pub mod Leave
 pub mod Fits
 pub mod Before
 pub mod Rebuild

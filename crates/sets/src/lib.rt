@@ -3,7 +3,7 @@
 #![tactic(auto)]
 
 ghost use Rattle.std.specs.Prelude.{◌≡◌, not, ◌≤◌, ◌<◌, eqb, length};
-ghost use Rattle.sets.specs.Forest.{Falls, at, root as root-of, union, Alone, Parents};
+ghost use Rattle.sets.specs.Forest.{Falls, at, root as root_of, union, Alone, Parents};
 
 // A parent as an index.
 fn wide(x: u16) -> usize
@@ -27,7 +27,7 @@ pub fn set_apart(parents: &mut [u16], n: usize)
 // The root of a node: up from parent to parent.
 pub fn root(parents: &[u16], node: usize) -> usize
     requires { Falls (at parents.now) × (node < length parents.now) }
-    ensures { (result ≡ root-of parents.now node) × (result ≤ node) }
+    ensures { (result ≡ root_of parents.now node) × (result ≤ node) }
 {
     let mut i = node;
     let mut up = wide(parents[i]);
@@ -42,7 +42,7 @@ pub fn root(parents: &[u16], node: usize) -> usize
 pub fn unite(parents: &mut [u16], i: usize, j: usize) -> bool
     requires { Parents parents.old × (i < length parents.old) × (j < length parents.old) }
     ensures { (parents.new ≡ union parents.old i j)
-        × (result ≡ not (eqb (root-of parents.old i) (root-of parents.old j))) }
+        × (result ≡ not (eqb (root_of parents.old i) (root_of parents.old j))) }
 {
     let a = root(parents, i);
     let b = root(parents, j);

@@ -24,7 +24,7 @@ use Rattle.listing.specs.Output.{answer_of, Answers}
 use Rattle.listing.specs.Laws.Output.{count_is}
 use Rattle.listing.specs.declared.output.Listed.{Listed}
 use Rattle.listing.specs.declared.output.Listed.TheVariants.{Ranges}
-use Rattle.choice.specs.Choosing.{answer_of as best-answer, Chooses}
+use Rattle.choice.specs.Choosing.{answer_of as best_answer, Chooses}
 use Rattle.choice.specs.declared.Best.{Best}
 use Rattle.choice.specs.declared.Best.TheVariants.{At as BestAt}
 use Rattle.card.specs.declared.Check.{Check}
@@ -83,7 +83,7 @@ choose_refused r t x h e = leaves ((rw e at h) (choose t) refl)
 
 module _ (r t : List ℕ) (x : Given r t) (a : Best) (h : Chooses (device_of r) (book_of r) t a) where
   -- the answer of each case
-  pub choose_answers : Bytes r → {z : ℤ} → best-answer a ≡ z → Leaves (on_record r (choose t)) z r []
+  pub choose_answers : Bytes r → {z : ℤ} → best_answer a ≡ z → Leaves (on_record r (choose t)) z r []
   unfolding written
   choose_answers B e =
       let q = sound_call r (choose t) x.sound in
@@ -94,5 +94,5 @@ module _ (r t : List ℕ) (x : Given r t) (a : Best) (h : Chooses (device_of r) 
     pub choose_few : (q < max_columns) × (z < 2 * max_rows)
     choose_few = (rw e at h).near
 
-    pub choose_number : best-answer a ≡ to_z w32 (q * column_weight + z)
+    pub choose_number : best_answer a ≡ to_z w32 (q * column_weight + z)
     choose_number = rw e (sym (to_z_pos w32 {n = q * column_weight + z} (omega (arith, choose_few))))

@@ -5,7 +5,7 @@ use Rattle.std.proofs.Math.Path.{refl}
 use Rattle.std.proofs.Common.{sym, ap, ◌∙◌, inl, inr, mul-le-mul_left, lt-ltb}
 use native.Mathlib.Omega.{arith}
 use Rattle.runs.specs.Laws.Tests.{tests, lt_or_ge}
-use Rattle.runs.specs.Intervals.{Interval, Named, Apart, intervals as maximal-runs, piece}
+use Rattle.runs.specs.Intervals.{Interval, Named, Apart, intervals as maximal_runs, piece}
 use Rattle.runs.specs.Laws.Intervals.{named_ge, piece_apart, piece_to, piece_of, intervals_free, free_intervals}
 use Rattle.model.proofs.Laws.Bounded.{and_to, and_of, is_false}
 use Rattle.model.proofs.Laws.Cells.{whole_cells}
@@ -105,11 +105,11 @@ module _ (f : ℕ → Bool) where
 -- ---- free cells of a column
 
 -- THEOREM: the changes of the free cells below n are the ends of their maximal runs
-pub free_changes : (ws : List ℕ) (n m : ℕ) → n < m → hits (change (free_below ws n)) 0 m ≡ ends (maximal-runs (is_free ws) n)
+pub free_changes : (ws : List ℕ) (n m : ℕ) → n < m → hits (change (free_below ws n)) 0 m ≡ ends (maximal_runs (is_free ws) n)
 unfolding free_below
 free_changes ws n m l =
     let g = intervals_free (is_free ws) n in
-    changes_ends (free_below ws n) 0 m (maximal-runs (is_free ws) n) g.canon refl
+    changes_ends (free_below ws n) 0 m (maximal_runs (is_free ws) n) g.canon refl
     (λ y p. (
       λ k. let (a, b) = (g.named y).0 k in and_of (ltb y n) (is_free ws y) (lt-ltb y n a) b,
       λ e. let (a, b) = and_to (ltb y n) (is_free ws y) e in (g.named y).1 (omega tests, b),
@@ -125,13 +125,13 @@ ends_small h n m (i ∷ L) l c u =
       (omega (arith, mul-le-mul_left {m = i.top} {n = n} h (omega arith)), ends_small h n (suc i.top) L l c.2 (λ y k. u y (inr k))),
     )
 
-pub small_ends : (h n : ℕ) (f : ℕ → Bool) → h * n < words → SmallEnds h (ends (maximal-runs f n))
-small_ends h n f l = let g = intervals_free f n in ends_small h n 0 (maximal-runs f n) l g.canon (λ y k. ((g.named y).0 k).0)
+pub small_ends : (h n : ℕ) (f : ℕ → Bool) → h * n < words → SmallEnds h (ends (maximal_runs f n))
+small_ends h n f l = let g = intervals_free f n in ends_small h n 0 (maximal_runs f n) l g.canon (λ y k. ((g.named y).0 k).0)
 
 -- ---- clear bits
 
 -- a test that each number below n passes has one run, or none where n is 0
-pub runs_all : (f : ℕ → Bool) (n : ℕ) → ((k : ℕ) → k < n → f k ≡ true) → maximal-runs f n ≡ piece 0 n []
+pub runs_all : (f : ℕ → Bool) (n : ℕ) → ((k : ℕ) → k < n → f k ≡ true) → maximal_runs f n ≡ piece 0 n []
 runs_all f n h =
     sym (free_intervals f n (piece 0 n []) (record {
       canon = piece_apart 0 0 n [] (λ l. (omega arith, tt)) (λ l. tt);

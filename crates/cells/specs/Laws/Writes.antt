@@ -6,7 +6,7 @@ use mathlib.Core.List.{List, [], ◌∷◌, ◌++◌, append_assoc, append-nil}
 use Rattle.std.proofs.Math.ListN.{length, length-map, length-append}
 use Rattle.std.proofs.lemmas.Nat.{and_le_l}
 use Rattle.std.specs.Int.Count.{count_trailing_zeros}
-use Rattle.runs.specs.Intervals.{Interval, intervals as maximal-runs}
+use Rattle.runs.specs.Intervals.{Interval, intervals as maximal_runs}
 use Rattle.runs.specs.Laws.Runs.{in_step_one, runs_count}
 use Rattle.model.specs.Limits.{max_intervals, column_size, words}
 use Rattle.model.specs.Record.{bytes16, column_part}
@@ -79,10 +79,10 @@ word_ends ws n base t d =
 -- the free runs, by their ends
 module _ (ws : List ℕ) (n h : ℕ) (p : List ℕ) (c : ColumnBits ws n h p) where
   abbrev pub runs_of : List Interval
-  runs_of = maximal-runs (is_free ws) n
+  runs_of = maximal_runs (is_free ws) n
 
   pub few : length runs_of ≤ max_intervals
-  unfolding maximal-runs
+  unfolding maximal_runs
   few = simp length-map (omega (arith, c.few, runs_count 1 (is_free ws) (in_step_one (is_free ws)) n))
 
   pub all_ends : hits (change (free_below ws n)) 0 (word_bits * (length ws + 1)) ≡ ends runs_of

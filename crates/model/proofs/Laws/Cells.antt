@@ -10,7 +10,7 @@ use Rattle.std.proofs.Math.ListN.{length-map}
 use borrow.Author.Tests.{le-leb, lt-ltb, eq-eqb}
 use Rattle.runs.specs.Laws.Tests.{tests}
 use Rattle.runs.specs.Laws.Runs.{in_step_one, runs_count}
-use Rattle.runs.specs.Intervals.{Interval, interval, Named, Apart, Multiple, OnGrid, intervals as maximal-runs}
+use Rattle.runs.specs.Intervals.{Interval, interval, Named, Apart, Multiple, OnGrid, intervals as maximal_runs}
 use Rattle.runs.specs.Laws.Intervals.{apart_weaken, intervals_free, free_intervals}
 use Rattle.model.specs.Limits.{reach, max_intervals}
 use Rattle.model.specs.Bounded.{any_in, In}
@@ -56,14 +56,14 @@ module _ (h : ℕ) (p : 1 ≤ h) where
   scaled_of z (i ∷ L) (inr n) = inr (scaled_of z L n)
 
   -- THEOREM: where all half rows of a cell pass alike, the maximal runs of half rows are the maximal runs of cells
-  pub whole_cells : (n : ℕ) (f g : ℕ → Bool) → ((k i : ℕ) → k < n → i < h → f (h * k + i) ≡ g k) → maximal-runs f (h * n) ≡ map (scaled h) (maximal-runs g n)
+  pub whole_cells : (n : ℕ) (f g : ℕ → Bool) → ((k i : ℕ) → k < n → i < h → f (h * k + i) ≡ g k) → maximal_runs f (h * n) ≡ map (scaled h) (maximal_runs g n)
   whole_cells n f g e =
       let r = intervals_free g n in
-      sym (free_intervals f (h * n) (map (scaled h) (maximal-runs g n)) (record {
-        canon = apart_weaken 0 (h * 0) (map (scaled h) (maximal-runs g n)) (omega arith) (scaled_apart 0 (maximal-runs g n) r.canon);
+      sym (free_intervals f (h * n) (map (scaled h) (maximal_runs g n)) (record {
+        canon = apart_weaken 0 (h * 0) (map (scaled h) (maximal_runs g n)) (omega arith) (scaled_apart 0 (maximal_runs g n) r.canon);
         named = λ z. (
-          λ m. let (l, v) = (r.named (z / h)).0 (scaled_to z (maximal-runs g n) m) in (omega (arith, (div-lt_iff_lt-mul {x = z} {y = n} p).0 l), at z l ∙ v),
-          λ (l, v). let k : z / h < n = (div-lt_iff_lt-mul p).1 (omega arith) in scaled_of z (maximal-runs g n) ((r.named (z / h)).1 (k, sym (at z k) ∙ v)),
+          λ m. let (l, v) = (r.named (z / h)).0 (scaled_to z (maximal_runs g n) m) in (omega (arith, (div-lt_iff_lt-mul {x = z} {y = n} p).0 l), at z l ∙ v),
+          λ (l, v). let k : z / h < n = (div-lt_iff_lt-mul p).1 (omega arith) in scaled_of z (maximal_runs g n) ((r.named (z / h)).1 (k, sym (at z k) ∙ v)),
         );
       }))
     where
@@ -156,17 +156,17 @@ module _ (d : Device) (b : Book) (w : within d b ≡ true) (c : ℕ) where
       (any_in_ext _ _ b (λ e m. covered_holds d e ((limits_to d b w).entries e m) c k i l))
 
   -- THEOREM: a maximal run of free half rows is a maximal run of free cells (MODEL 7.1)
-  pub intervals_cells : intervals d b c ≡ map (scaled (height (kind d c))) (maximal-runs (cell_free d b c) (cells d c))
+  pub intervals_cells : intervals d b c ≡ map (scaled (height (kind d c))) (maximal_runs (cell_free d b c) (cells d c))
   unfolding intervals top top_in cells
   intervals_cells = whole_cells (height (kind d c)) (height_pos (kind d c)) (cells d c) (free d b c) (cell_free d b c) (λ k i l g. free_cell k i g)
 
   -- so they begin and end on the grid
   pub intervals_grid : OnGrid (height (kind d c)) (intervals d b c)
-  intervals_grid = rw intervals_cells (scaled_grid (height (kind d c)) (maximal-runs (cell_free d b c) (cells d c)))
+  intervals_grid = rw intervals_cells (scaled_grid (height (kind d c)) (maximal_runs (cell_free d b c) (cells d c)))
 
   -- THEOREM: a column has at most 64 free intervals (MODEL 7.4)
   pub few_intervals : length (intervals d b c) ≤ max_intervals
-  unfolding cells cells_in maximal-runs
+  unfolding cells cells_in maximal_runs
   few_intervals =
       let n = mul-div-le (half_rows d) (height (kind d c)) in
       let h = mul-le-mul_right {m = 2} {n = height (kind d c)} (cells d c) (height_two (kind d c)) in

@@ -3,7 +3,7 @@ use Rattle.std.specs.Prelude.{ℕ, suc, ◌+◌, ◌*◌, ◌≤◌, ◌<◌, �
 use Rattle.std.proofs.Common.{sym, ◌∙◌, inl, inr, arith, mul-le-mul_left}
 use Rattle.std.proofs.Math.Decide.{ℕ_discrete}
 use borrow.Author.Tests.{eq-eqb, ne_eqb, le-leb, lt-ltb}
-use Rattle.runs.specs.Intervals.{Interval, Named, Apart, OnGrid, intervals as maximal-runs}
+use Rattle.runs.specs.Intervals.{Interval, Named, Apart, OnGrid, intervals as maximal_runs}
 use Rattle.runs.specs.Laws.Tests.{tests, lt_or_ge}
 use Rattle.runs.specs.Laws.Intervals.{intervals_free, free_intervals}
 use Rattle.runs.specs.Laws.Grid.{grid_count}
@@ -29,10 +29,10 @@ use Rattle.record.specs.Columns.{runs_of}
 -- ---- a record whose columns list the half rows that pass a test
 
 -- tests that pass alike have the same runs
-pub runs_same : (f g : ℕ → Bool) (n : ℕ) → ((y : ℕ) → f y ≡ g y) → maximal-runs f n ≡ maximal-runs g n
+pub runs_same : (f g : ℕ → Bool) (n : ℕ) → ((y : ℕ) → f y ≡ g y) → maximal_runs f n ≡ maximal_runs g n
 runs_same f g n h =
     let r = intervals_free f n in
-    free_intervals g n (maximal-runs f n) (record {
+    free_intervals g n (maximal_runs f n) (record {
       canon = r.canon;
       named = λ y. (λ k. let (l, v) = (r.named y).0 k in (l, sym (h y) ∙ v), λ k. (r.named y).1 (k.0, h y ∙ k.1));
     })

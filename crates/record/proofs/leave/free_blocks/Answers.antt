@@ -1,7 +1,7 @@
 -- Answers of `record::leave::free_blocks`.
 use native.Mathlib.Omega.{arith}
 use Rattle.model.specs.Record.{part}
-use Rattle.record.specs.Laws.Leave.{in_entries, freeing, freed_length, blocks_there, all_freed, block_there, join_room, block_freed}
+use Rattle.record.proofs.Laws.Leave.{in_entries, freeing, freed_length, blocks_there, all_freed, block_there, join_room, block_freed}
 use Rattle.record.proofs.leave.free_blocks.Goals as goal
 
 pub read_entry-entry-requires : goal.read_entry-entry-requires

@@ -1,6 +1,6 @@
 -- `record::leave::free_blocks`: the first i blocks are freed (`Freeing`). Assumes nothing.
 use Prim.Native.Nat.{◌-◌}
-use Rattle.record.specs.Laws.Leave.{Freeing}
+use Rattle.record.proofs.Laws.Leave.{Freeing}
 use Rattle.record.proofs.leave.free_blocks.Given as goal
 
 abbrev pub invariant-loop-i : goal.invariant-loop-i

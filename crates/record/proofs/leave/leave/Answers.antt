@@ -1,5 +1,5 @@
 -- `record::leave::leave`: the entry, its blocks, and then the entry taken out (`left_record`). Assumes nothing.
-use Rattle.record.specs.Laws.Leave.{found_not, found_runs, found_number, entry_there, left_record}
+use Rattle.record.proofs.Laws.Leave.{found_not, found_runs, found_number, entry_there, left_record}
 use Rattle.record.proofs.leave.leave.Goals as goal
 
 pub returns-in_default : goal.returns-in_default

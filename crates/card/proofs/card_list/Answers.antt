@@ -1,0 +1,15 @@
+-- `card_list`: a refusal of the task, or what `list_task` answers. Assumes nothing.
+use mir.Syntax.{w32}
+use Rattle.signed.proofs.Signed.{read}
+use Rattle.card.specs.Laws.Checks.{check_given}
+use Rattle.card.specs.Laws.Positions.{list_refused}
+use Rattle.card.proofs.card_list.Goals as goal
+
+pub list_task-requires : goal.list_task-requires
+list_task-requires c = check_given _ _ _ c.check_task.ensures c.in-Pass.is
+
+pub returns-in-Refuse : goal.returns-in-Refuse
+returns-in-Refuse c = rw (read w32 c.known_told-1.given.0.1) (list_refused _ _ _ _ c.check_task.ensures c.in-Refuse.is)
+
+pub returns-in-Pass : goal.returns-in-Pass
+returns-in-Pass c = rw (read w32 c.list_task.type-inv) c.list_task.ensures

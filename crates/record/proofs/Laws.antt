@@ -1,0 +1,2 @@
+-- What is proved of a record that is left.
+pub mod Leave

@@ -1,0 +1,2 @@
+-- Laws that rest on what the reader of entries says.
+pub mod Laws
