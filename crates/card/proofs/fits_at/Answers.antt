@@ -13,4 +13,4 @@ pub fits-requires : goal.fits-requires
 fits-requires c = let z = c.requires in (z.sound, z.sized, z.formed)
 
 pub returns : goal.returns
-returns c = fits_above _ _ _ _ c.ranges.bottom _ c.if-bottom-lt0.false c.fits2.ensures
+returns c = fits_above _ _ _ _ c.ranges.bottom _ c.if-bottom-lt0.false c.fits.ensures

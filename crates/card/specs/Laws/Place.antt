@@ -8,10 +8,9 @@ use Rattle.std.specs.Int.{w32}
 use Rattle.signed.proofs.Signed.{negative, natural as natural_is, unsigned}
 use Rattle.model.specs.Limits.{max_running}
 use Rattle.model.specs.Columns.{Device}
-use Rattle.model.specs.Tasks.{sized, well_formed}
 use Rattle.model.specs.Book.{Book, fits, fits_at}
 use Rattle.model.specs.Record.{record_of, device_of, book_of}
-use Rattle.model.specs.Sound.{sound, number_ok}
+use Rattle.model.specs.Sound.{number_ok}
 use Rattle.model.specs.Calls.{place, lent, refused, refusals, insert, natural, runs_in, done}
 use Rattle.model.specs.OnRecord.{written, on_record}
 use Rattle.model.proofs.Laws.Bounded.{clash}

@@ -7,11 +7,9 @@ use borrow.Author.Tests.{lt-ltb}
 use Rattle.std.specs.Int.{w32}
 use Rattle.std.proofs.Math.Facts.{to_z_pos}
 use Rattle.model.specs.Limits.{max_rows, max_columns, max_intervals, list_room, column_weight}
-use Rattle.model.specs.Columns.{Device, columns}
-use Rattle.model.specs.Tasks.{sized}
+use Rattle.model.specs.Columns.{Device}
 use Rattle.model.specs.Book.{Book}
 use Rattle.model.specs.Record.{device_of, book_of}
-use Rattle.model.specs.Sound.{sound}
 use Rattle.model.specs.Calls.{list, choose, lent, refused, refusals, unless, done, on_book}
 use Rattle.model.specs.OnRecord.{written, on_record}
 use Rattle.model.proofs.Laws.WriteBack.{Bytes}
