@@ -2,6 +2,7 @@
 // Each contract is the model's line by the book (model/specs/Program.antt), and that of `program` is one turn of the model's program.
 // The program `sheet` only reads, makes turns and writes.
 #![tactic(auto)]
+
 pub mod program; // the start, and one turn
 mod input; // where lines end, and the first three lines
 mod lines; // a line from the fourth on
