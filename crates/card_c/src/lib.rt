@@ -17,7 +17,13 @@ pub extern "C" fn card_new(record: &mut [u8], rows: u32, kinds: &[u8]) -> i32
 
 // MODEL 12.4: enters a task as running and takes its cells.
 #[unsafe(no_mangle)]
-pub extern "C" fn card_place(record: &mut [u8], task: &[u8], number: u32, column: u32, bottom: i32) -> i32
+pub extern "C" fn card_place(
+    record: &mut [u8],
+    task: &[u8],
+    number: u32,
+    column: u32,
+    bottom: i32,
+) -> i32
     ensures { Changes (on_record «record».old (place task.now number column bottom)) result «record».new }
 {
     card::card_place(record, task, number, column, bottom)
