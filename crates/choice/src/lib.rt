@@ -1,6 +1,6 @@
 // MODEL 11: the choice for a task on a sound record. The score of a position, the way up a range, a column, and all columns.
 // Only the lowest and the highest bottom of each stretch in which no block leaves its free interval are scored: between them s stays the same
-// and n is no less (model/specs/Laws/Ends.antt).
+// and n is no less (model/proofs/Laws/Ends.antt).
 #![tactic(auto)]
 
 ghost use Rattle.std.specs.Prelude.{◌≡◌, suc, ◌+◌, ◌≤◌, ◌<◌, true, ltb};

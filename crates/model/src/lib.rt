@@ -1,4 +1,4 @@
-// The model (docs/MODEL.md). Its definitions stand in specs/, what is proved of them in specs/Laws.
+// The model (docs/MODEL.md). Its definitions stand in specs/, what is proved of them in proofs/Laws.
 // The code here is the kind of a column, and the limits, lengths and offsets that all other crates use.
 #![tactic(auto)]
 
