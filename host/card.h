@@ -1,6 +1,6 @@
 /* Where circuits may go on an FPGA card of mixed columns: the calls of target/staticlib/libcard.a.
  *
- * `rt staticlib card` proves and builds the archive. A byte string passes as a pointer and a length, a number that is
+ * `./archive` proves and builds the archive. A byte string passes as a pointer and a length, a number that is
  * written as a pointer alone. A number of two bytes has its low byte first. Heights, bottoms and tops are in half
  * rows. docs/MODEL.md defines all that is used here.
  *

@@ -6,7 +6,7 @@ use std::path::PathBuf;
 /// The variable that names the archive's folder, where it is not the repository's own.
 const FOLDER: &str = "WALLARNICA_LIB_DIR";
 
-/// The folder that the variable names, or the one in which `rt staticlib card` builds.
+/// The folder that the variable names, or the one in which `./archive` builds.
 fn folder() -> PathBuf {
     let package = env::var_os("CARGO_MANIFEST_DIR").map(PathBuf::from);
     let package = package.unwrap_or_default();
@@ -25,7 +25,7 @@ fn main() {
     println!("cargo::rerun-if-changed={}", archive.display());
     if !archive.is_file() {
         println!(
-            "cargo::error={} is missing: run `rt staticlib card` in the root of the repository first, \
+            "cargo::error={} is missing: run `./archive` in the root of the repository first, \
              or set {FOLDER} to the whole path of the folder that has libcard.a",
             archive.display()
         );

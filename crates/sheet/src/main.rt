@@ -1,82 +1,73 @@
 // The sheet: reads standard input, has `desk` make one turn after the other, and writes what each prints to standard output.
-// A read or a write that fails is told on standard error; then `./sheet` ends with status 1, which a program of the kit cannot do itself.
+// A read or a write that fails is told on standard error; then `./sheet` ends with status 1.
 #![tactic(auto)]
-ghost use Rattle.std.specs.Prelude.{length, ◌≤◌};
 
-use libc::{STDIN_FILENO, STDOUT_FILENO};
+ghost use Rattle.std.specs.Prelude.{length, ◌≤◌, IfOk};
 
-// What was read: how many bytes, and whether the reading went well. It did not where a read failed or was interrupted.
-#[derive(Drop)]
-struct Got {
-    count: usize,
-    well: bool,
-}
+use std::io;
+use std::io::{Eprint, Print, Read};
 
-// One read. At the end of the input no byte comes, and that is well.
-fn read_some(room: &mut [u8]) -> Got
-    ensures { result.count ≤ length room.new }
+// One read. At the end of the input no byte comes, and that is well; a read that fails or is interrupted is an error.
+fn read_some<R: Read>(from: &mut R, room: &mut [u8]) -> io::Result<usize>
+    ensures { IfOk result (λ n. n ≤ length room.new) }
 {
-    let answer = libc::read(STDIN_FILENO, room);
-    let count = io::count(answer, room);
-    Got {
-        count: count,
-        well: 0 <= answer,
-    }
+    from.read(room)
 }
 
-// Reads until the input ends, the room is full, or a read fails.
-fn read(input: &mut [u8]) -> Got
-    ensures { result.count ≤ length input.new }
+// Reads until the input ends or the room is full. A read that fails is an error: an input that is cut short is not the input.
+fn read<R: Read>(from: &mut R, input: &mut [u8]) -> io::Result<usize>
+    ensures { IfOk result (λ n. n ≤ length input.new) }
 {
     let mut n = 0;
     while n < input.len() {
-        let got = read_some(&mut input[n..]);
-        let count = got.count;
+        let count = read_some(from, &mut input[n..])?;
         if count == 0 {
-            return Got {
-                count: n,
-                well: got.well,
-            };
+            return Ok(n);
         }
         n += count;
     }
-    Got {
-        count: n,
-        well: true,
-    }
+    Ok(n)
 }
 
-// Writes the first n bytes, and answers whether all could be written.
-fn write(out: &[u8], n: usize) -> bool
+// Writes the first n bytes, all of them or with an error.
+fn write<P: Print>(to: &P, out: &[u8], n: usize) -> io::Result<()>
     requires { n ≤ length out.now }
 {
-    io::write_all(STDOUT_FILENO, &out[..n])
+    to.write_all(&out[..n])
 }
 
-// The program on an input: its start, and its turns. The answer is whether all that they printed could be written.
-fn run(input: &[u8]) -> bool {
+// The program on an input: its start, and its turns. It ends where what they printed could not be written.
+fn run<P: Print>(to: &P, input: &[u8]) -> io::Result<()> {
     let mut card = [0u8; model::RECORD_SIZE];
     let mut draft = [0u8; desk::DRAFT_ROOM];
     let mut listing = [0u8; model::LIST_ROOM];
     let mut out = [0u8; desk::OUTPUT_ROOM];
     let mut stand = desk::program::start(input, &mut card, &mut out);
-    let mut written = write(&out, stand.printed);
-    while written && stand.more {
+    write(to, &out, stand.printed)?;
+    while stand.more {
         stand = desk::program::turn(input, stand, &mut card, &mut draft, &mut listing, &mut out);
-        written = write(&out, stand.printed);
+        write(to, &out, stand.printed)?;
     }
-    written
+    Ok(())
 }
 
-fn main() {
+// Tells which end failed and why, as `sheet: standard input: Is a directory`. The reason is the system's text, without its number.
+fn tell<R: Eprint + AllocGlobal>(rt: &R, end: &str, fault: io::Error) -> io::Result<()> {
+    let text = format!(in rt.alloc(); "{fault}")?;
+    let reason = match text.as_str().split_once(" (os error ") {
+        Some((before, _)) => before,
+        None => text.as_str(),
+    };
+    eprintln!(rt; "sheet: {end}: {reason}")
+}
+
+fn main(rt: HostRuntime) -> io::Result<()> {
     let mut input = [0u8; desk::INPUT_ROOM];
-    let got = read(&mut input);
-    if !got.well {
-        os::fail(b"sheet: standard input");
-        return;
-    }
-    let n = got.count;
-    if !run(&input[..n]) {
-        os::fail(b"sheet: standard output");
+    match read(&mut rt.stdin(), &mut input) {
+        Err(fault) => tell(&rt, "standard input", fault),
+        Ok(n) => match run(&rt, &input[..n]) {
+            Err(fault) => tell(&rt, "standard output", fault),
+            Ok(()) => Ok(()),
+        },
     }
 }

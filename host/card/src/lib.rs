@@ -51,7 +51,7 @@
 //!
 //! # The archive that it links
 //!
-//! `rt staticlib card`, in the root of the repository, proves and builds
+//! `./archive`, in the root of the repository, proves and builds
 //! `target/staticlib/libcard.a`; after that a package needs only
 //! `card = { path = "host/card" }`. Where the crate is used without that
 //! folder, as a git dependency or vendored, the environment variable

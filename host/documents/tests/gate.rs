@@ -9,12 +9,13 @@ use std::process::Command;
 
 use documents::top;
 
-/// The files of the small repository. What they hold is not looked at, save `crates.txt` and the mark of an export.
-const FILES: [(&str, &str); 12] = [
-    ("crates.txt", "# ground up\nground:\nprogram: ground\n"),
-    ("crates/ground/src/lib.rt", "#[no_mangle]\n"),
+/// The files of the small repository. What they hold is not looked at, save `crates.txt`.
+const FILES: [(&str, &str); 13] = [
+    ("crates.txt", "# ground up\nground staticlib:\nprogram:\n"),
+    ("crates/ground/src/lib.rt", ""),
     ("crates/ground/must-fail/wrong.edit", ""),
     ("crates/program/src/main.rt", ""),
+    ("crates/program/stdin", ""),
     ("host/bench/Cargo.toml", ""),
     ("host/bench/src/main.rs", ""),
     ("host/bench/src/bin/other.rs", ""),
@@ -28,11 +29,12 @@ const FILES: [(&str, &str); 12] = [
 /// What `rt ci` says of it.
 const CI: &str = "\
 fn ground::f: proved
-rt: ground proved (3 s)
-rt: program proved (2 s)
-rt: must-fail ground/wrong: refused, as it must be (first at proofs/f/Proof.antt:1:2; 4 s)
-rt: program ran as nobody, and wrote what its file 'stdout' has (0 s)
-rt: ok, 2 crates proved, 1 must-fail edits refused
+rt: ground proved
+rt: program proved
+rt: must-fail ground/wrong.edit: refused, as it must be: ./proofs/f/Answers.antt:1:2: error: `returns`
+rt: program ran (as LLVM builds it), and wrote what its file stdout has
+rt: program ran (as Rattle's own compiler builds it), and wrote what its file stdout has
+rt: ok; handles allowed: none; must-fail edits: 1 refused; every proof and must-fail edit was done in this run
 3 passed, 0 failed
 ";
 
@@ -96,7 +98,9 @@ impl Small {
         small.write("said/metadata", METADATA);
         small.write("said/release", &(report(&TESTS) + &report(&MORE_TESTS)));
         small.write("said/debug", &report(&TESTS));
-        fs::copy(documents::top().join("gate"), small.top.join("gate")).expect("the gate");
+        for script in ["gate", "archive"] {
+            fs::copy(documents::top().join(script), small.top.join(script)).expect("the script");
+        }
         small
     }
 
@@ -175,10 +179,10 @@ const TWO_LESS: &str = "18 passed, 1 failed";
 
 #[test]
 fn a_crate_that_was_not_proved_fails() {
-    let proved = "rt: ground proved (3 s)\n";
-    let long_ago = "rt: ground proved (unchanged since it was last proved)\n";
+    let proved = "rt: ground proved\n";
+    let not = "rt: ground NOT PROVED\n";
     assert_eq!(when_said("crate", "ci", proved, ""), ONE_LESS);
-    assert_eq!(when_said("long-ago", "ci", proved, long_ago), ONE_LESS);
+    assert_eq!(when_said("not-proved", "ci", proved, not), ONE_LESS);
     assert_eq!(
         with_file("crate-unlisted", "crates/stray/src/lib.rt"),
         ONE_FAULT
@@ -186,9 +190,19 @@ fn a_crate_that_was_not_proved_fails() {
 }
 
 #[test]
+fn a_crate_that_is_kept_passes() {
+    let kept = "rt: ground is kept: an earlier run on this machine proved the same files over the same libraries\n";
+    let last = when_said("kept", "ci", "rt: ground proved\n", kept);
+    assert_eq!(last, ALL_WELL);
+}
+
+#[test]
 fn a_program_that_did_not_run_fails() {
-    let (ran, not) = ("program ran as nobody", "program was not run");
-    assert_eq!(when_said("program", "ci", ran, not), ONE_LESS);
+    let small = Small::new("program");
+    for _ in 0..2 {
+        small.say("ci", "program ran", "program was not run");
+    }
+    assert_eq!(small.last_line(), ONE_LESS);
 }
 
 #[test]
@@ -196,6 +210,10 @@ fn an_edit_that_was_not_refused_fails() {
     let (refused, not) = ("refused, as it must be", "NOT REFUSED");
     assert_eq!(when_said("edit", "ci", "rt: must-fail", ""), ONE_LESS);
     assert_eq!(when_said("survives", "ci", refused, not), ONE_LESS);
+    // It is refused for a fact, and not for a name.
+    let name = "as it must be (only because a proof file names what the edit took away)";
+    let last = when_said("named", "ci", "as it must be", name);
+    assert_eq!(last, ONE_LESS);
     // rt looks in no folder below.
     let below = "crates/ground/must-fail/below/lost.edit";
     assert_eq!(with_file("edit-below", below), ONE_FAULT);
@@ -210,6 +228,14 @@ fn another_count_than_the_tree_s_fails() {
     ] {
         assert_eq!(when_said(name, "ci", all, count), ONE_FAULT);
     }
+}
+
+#[test]
+fn a_bad_edit_fails() {
+    let (refused, bad) = ("1 refused;", "1 refused, 1 bad;");
+    assert_eq!(when_said("bad-edit", "ci", refused, bad), ONE_FAULT);
+    let ok = "rt: ok;";
+    assert_eq!(when_said("not-ok", "ci", ok, "rt: not ok;"), ONE_FAULT);
 }
 
 #[test]
@@ -265,13 +291,20 @@ fn a_folder_of_the_host_that_is_no_member_fails() {
 
 #[test]
 fn a_step_that_fails_is_counted() {
-    for command in ["ci", "staticlib", "clippy", "doc"] {
+    for command in ["ci", "lib", "run", "fmt", "clippy", "doc"] {
         let last = with_file(command, &format!("said/no-{command}"));
         assert_eq!(last, ONE_FAULT, "{command}");
     }
-    // Two steps each: formats of both languages, and tests twice.
-    for command in ["fmt", "test"] {
-        let last = with_file(command, &format!("said/no-{command}"));
-        assert_eq!(last, TWO_FAULTS, "{command}");
+    // Tests run twice.
+    let last = with_file("test", "said/no-test");
+    assert_eq!(last, TWO_FAULTS);
+}
+
+#[test]
+fn what_is_built_stands_where_it_is_looked_for() {
+    let small = Small::new("built");
+    assert_eq!(small.last_line(), ALL_WELL);
+    for built in ["staticlib/libground.a", "bin/program"] {
+        assert!(small.top.join("target").join(built).exists(), "{built}");
     }
 }

@@ -9,7 +9,7 @@ use std::path::{Path, PathBuf};
 use std::process::{Command, Output, Stdio};
 use std::thread;
 
-/// Where the program stands once `rt check sheet` or the gate has built it.
+/// Where the program stands once `./sheet` or the gate has built it.
 pub fn program() -> PathBuf {
     Path::new(env!("CARGO_MANIFEST_DIR")).join("../../target/bin/sheet")
 }
@@ -22,7 +22,7 @@ pub fn run(sheet: &[u8]) -> io::Result<Vec<u8>> {
     let program = program();
     if !program.is_file() {
         let message = format!(
-            "{} is missing: run `rt check sheet` first",
+            "{} is missing: run `./sheet` or the gate first",
             program.display()
         );
         return Err(io::Error::new(io::ErrorKind::NotFound, message));

@@ -17,7 +17,7 @@ fn repository(name: &str, sheet: &str) -> PathBuf {
     let folder = Path::new(env!("CARGO_TARGET_TMPDIR")).join("script-tests");
     let top = folder.join(name);
     let _ = fs::remove_dir_all(&top);
-    fs::create_dir_all(top.join("crates")).expect("a new folder");
+    fs::create_dir_all(top.join("crates/sheet")).expect("a new folder");
     fs::create_dir_all(top.join("sheets")).expect("a new folder");
     fs::write(top.join("crates.txt"), "sheet:\n").expect("a new file");
     fs::write(top.join("sheets/one"), sheet).expect("a new file");
