@@ -1,17 +1,16 @@
 -- Where lines end, and what the first three lead to. Assumes nothing.
 use Rattle.std.specs.Prelude.{ℕ, suc, ◌+◌, ◌-◌, ◌≤◌, ◌<◌, ◌≡◌, refl, Bool, true, false, cond, List, [], ◌∷◌, eqb, ℤ, pos, negsuc, length, take, drop}
 use Prim.Native.Char.{code}
-use Rattle.std.proofs.Common.{sym, ap, ap₂, ◌∙◌, arith, drop_of_length-le, length-drop, length-append, drop-drop, take_at, eq-eqb, eqb-true, lt-ltb, le-ltb}
+use Rattle.std.proofs.Common.{sym, ap, ap₂, ◌∙◌, arith, drop_of_length-le, length-drop, length-append, drop-drop, take_at, eq-eqb, eqb-true}
 use Rattle.std.proofs.Math.Option.{Option, none, some}
 use Rattle.std.specs.Int.Signed.{lt_z}
-use Rattle.model.specs.Limits.{record_size, max_sheet}
+use Rattle.model.specs.Limits.{record_size}
 use Rattle.model.specs.Sheet.{first_names, second_names, device_line}
 use Rattle.model.specs.Record.{record_of}
 use Rattle.model.specs.Calls.{Outcome}
 use Rattle.model.specs.Program.{lines, longer, same_line, says, with_device, first, second, third, on_lines}
 use Rattle.model.proofs.Laws.Bounded.{and_to, is_false}
 use Rattle.model.proofs.Laws.OnRecord.{new_done, new_bad_device}
-use Rattle.model.proofs.Laws.Kept.{within_new}
 use Rattle.model.specs.Columns.{Device, device_ok}
 use Rattle.model.specs.OnRecord.{new}
 use Rattle.line.specs.Fields.{until}
@@ -20,9 +19,7 @@ use Rattle.line.specs.declared.device.DeviceRead.TheVariants as rows
 use Rattle.card.specs.Leaves.{Changes}
 use Rattle.desk.specs.declared.input.Begun.{Begun}
 use Rattle.desk.specs.declared.input.Begun.TheVariants as begun
-use Rattle.desk.specs.Desk.{Card}
 use Rattle.desk.specs.Input.{Ends, Opens, Opened, rest_of, Begins}
-use Rattle.desk.specs.Laws.Card.{card_of}
 
 -- ---- the first line and the others
 

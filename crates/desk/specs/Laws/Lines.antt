@@ -9,7 +9,6 @@ use Rattle.std.proofs.Math.Seq.{length-take-le}
 use Rattle.model.specs.Limits.{block_size, max_blocks, list_room}
 use Rattle.model.specs.Tasks.{blocks}
 use Rattle.model.specs.Record.{record_of, device_of, book_of, bytes16}
-use Rattle.model.specs.Sound.{within}
 use Rattle.model.specs.Calls.{Call, list, choose, Outcome, refused, refusals, unless, lent, done, on_book}
 use Rattle.model.specs.OnRecord.{written, on_record}
 use Rattle.model.specs.Sheet.{empty_draft, list_draft, choose_draft, sheet_line}

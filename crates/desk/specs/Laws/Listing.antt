@@ -1,5 +1,5 @@
 -- A listing printed: its ranges read back from the bytes, and its answer. Assumes nothing.
-use Rattle.std.specs.Prelude.{ℕ, zero, suc, ◌+◌, ◌-◌, ◌*◌, ◌≤◌, refl, ◌⊎◌, Bool, true, false, not, ltb, ℤ, pos, negsuc, nat_abs, length, drop, replicate}
+use Rattle.std.specs.Prelude.{ℕ, zero, suc, ◌+◌, ◌*◌, ◌≤◌, refl, ◌⊎◌, Bool, true, false, not, ltb, ℤ, pos, negsuc, nat_abs, length, drop, replicate}
 use Rattle.std.proofs.Math.Path.{◌≡◌, ap}
 use Rattle.std.proofs.Common.{sym, ◌∙◌, inl, inr, add-one, arith, length-append, get_or-drop}
 use Rattle.std.proofs.Math.Option.{Option, none, some}
@@ -14,7 +14,6 @@ use Rattle.model.specs.Tasks.{word, sized, well_formed}
 use Rattle.model.specs.Book.{Book}
 use Rattle.model.specs.Listing.{Range, ranges}
 use Rattle.model.specs.Record.{device_of, book_of, bytes16}
-use Rattle.model.specs.Sound.{within}
 use Rattle.model.specs.Calls.{list, Outcome, refuse, refused, refusals, no_position, unless, lent, done, on_book, range_bytes, ranges_in, over}
 use Rattle.model.specs.OnRecord.{written, on_record}
 use Rattle.model.specs.Sheet.{list_draft}

@@ -16,10 +16,9 @@ use Rattle.model.proofs.Laws.Kept.{within_new, kept}
 use Rattle.model.proofs.Laws.ReadBack.{device_of_record, book_of_record}
 use Rattle.line.specs.Print.{Printed, names_line}
 use Rattle.line.specs.Laws.Print.{printed_more}
-use Rattle.desk.specs.declared.input.Begun.{Begun}
 use Rattle.desk.specs.declared.input.Begun.TheVariants as begun
 use Rattle.desk.specs.declared.program.Stand.{Stand}
-use Rattle.desk.specs.Desk.{desk_of, draft_room, Drafted, Shows, Leaves}
+use Rattle.desk.specs.Desk.{desk_of, Shows, Leaves}
 use Rattle.desk.specs.Input.{Ends, Begins}
 use Rattle.desk.specs.Run.{State, state, printed, desk_in, left_in, yet, Standing, Faults, Starts, Turned, Turns, printed_in}
 use Rattle.desk.specs.Laws.Card.{card_of}

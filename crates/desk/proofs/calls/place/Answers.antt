@@ -1,4 +1,5 @@
 -- `desk::calls::place` meets its contract: the call's answer, printed. Assumes nothing.
+use Rattle.std.proofs.Common.{rules}
 use mir.Syntax.{w32}
 use Rattle.signed.proofs.Signed.{widens, widened, read}
 use Rattle.desk.proofs.calls.place.Goals as goal
@@ -12,4 +13,4 @@ returns c =
     let p = y in
     let s = p in
     let e = rw (widened w32 tt s.ranges.bottom) at p.card_place-answer.ensures in
-    record { card_is = e.record_is; printed_is = rw (read w32 p.card_place-answer.type-inv, e.answer_is) at y.say.ensures }
+    record { card_is = e.record_is; printed_is = rw (read w32 {z = p.card_place-answer.result} (search rules), e.answer_is) at y.say.ensures }

@@ -5,4 +5,4 @@ use Rattle.desk.proofs.input.line_end.Goals as goal
 pub returns : goal.returns
 returns c =
     let s = c in
-    ends s.args.input.now s.args.at _ s.requires c.end_Before.ensures.1 c.end_Before.ensures.0
+    ends s.args.input.now s.args.at _ s.requires c.end_before.ensures.1 c.end_before.ensures.0

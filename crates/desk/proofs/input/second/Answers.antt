@@ -1,6 +1,7 @@
 -- `desk::input::second` meets its contract. Assumes nothing.
 use mathlib.Core.Path.{◌∙◌}
 use lib.ListN.{take, drop}
+use Rattle.std.proofs.Common.{rules}
 use mir.Syntax.{w32}
 use Prim.Native.Nat.{◌+◌, ◌-◌}
 use Rattle.signed.proofs.Signed.{read}
@@ -19,8 +20,8 @@ returns-then-answer-lt0 c =
     let n = c in
     let e = n in
     let s = e in
-    let h = rw (read w32 n.new_card-answer.type-inv) at c.if-answer-lt0.true in
-    rw (read w32 n.new_card-answer.type-inv) (
+    let h = rw (read w32 {z = n.new_card-answer.result} (search rules)) at c.if-answer-lt0.true in
+    rw (read w32 {z = n.new_card-answer.result} (search rules)) (
       no_device,
       tt,
       second_is s.args.input.now s.args.at e.line_end-end.result e.line_end-end.ensures
@@ -33,6 +34,6 @@ returns c =
     let n = t in
     let e = n in
     let s = e in
-    let h = rw (read w32 n.new_card-answer.type-inv) at t.if-answer-lt0.false in
+    let h = rw (read w32 {z = n.new_card-answer.result} (search rules)) at t.if-answer-lt0.false in
     rw (second_is s.args.input.now s.args.at e.line_end-end.result e.line_end-end.ensures)
     (second_opened s.args.card.now s.requires (lines (drop (e.line_end-end.result + 1) s.args.input.now)) (device_line (take (e.line_end-end.result - s.args.at) (drop s.args.at s.args.input.now))) n.new_card-answer.result n.new_card-answer.new.card n.new_card-answer.ensures h c.third.result s.args.input.now c.third.ensures)

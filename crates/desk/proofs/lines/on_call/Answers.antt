@@ -1,5 +1,5 @@
 -- `desk::lines::on_call` meets its contract: one law for each call. Assumes nothing.
-use borrow.Author.Rules.{rules, sfits_of}
+use Rattle.std.proofs.Common.{rules}
 use mathlib.Core.Path.{sym}
 use native.Mathlib.Omega.{arith}
 use lib.ListN.{take}
@@ -52,14 +52,12 @@ returns-in-Choose c =
 pub returns-in-Place : goal.returns-in-Place
 unfolding on_call
 returns-in-Place c =
-    let y = c in
-    let k = y in
-    let s = k in
-    let v = k.call-in-Place-1.given.0 in
+    let s = c in
+    let v = c.in-Place in
     let t = take s.args.used s.args.draft.now in
-    let bottom = to_z-of_z (sfits_of {w = w16} {z = v.1.1.0} y.known_told-in-Place-1.given.1.1.0.1) in
-    rw (k.in-Place.is, c.leave-in-Place.ensures.0, c.leave-in-Place.ensures.1)
-    (leaves_answered s.args.card.now s.requires.is_card s.args.number s.args.draft.now s.args.used s.requires.drafted (place t v.0 v.1.0 v.1.1.0) (rw bottom at y.place-printed.ensures))
+    let bottom = to_z-of_z {w = w16} {z = v.bottom} (record { sfits = search rules }) in
+    rw (v.is, c.leave-in-Place.ensures.0, c.leave-in-Place.ensures.1)
+    (leaves_answered s.args.card.now s.requires.is_card s.args.number s.args.draft.now s.args.used s.requires.drafted (place t v.task v.column v.bottom) (rw bottom at c.place-printed.ensures))
 
 pub returns-in-Release : goal.returns-in-Release
 unfolding on_call

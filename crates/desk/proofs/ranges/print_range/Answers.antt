@@ -10,4 +10,4 @@ returns c =
     let step = first in
     let column = step in
     let s = column in
-    rw (to_z-of_z s.fits.answer, column.wide-column.ensures.is, step.wide-step.ensures.is, first.get16-first.ensures.is, last.get16-last.ensures.is) at p.print_line.ensures
+    rw (to_z-of_z s.ranges.answer, column.wide-column.ensures.is, step.wide-step.ensures.is, first.get16-first.ensures.is, last.get16-last.ensures.is) at p.print_line.ensures

@@ -1,6 +1,5 @@
 -- Answers of `desk::ranges::print_ranges`.
 use mathlib.Core.Path.{◌≡◌, refl, ◌∙◌}
-use Prim.Native.Nat.{◌≤◌, ◌*◌, ◌-◌}
 use native.Mathlib.Omega.{arith}
 use mir.Syntax.{w32}
 use mir.Val.{to_z, of_z}
@@ -24,7 +23,7 @@ loop-i-preserved c =
     let more = printed_more (omega (arith, l.loop-i.invariant.2)) l.loop-i.invariant.3 p.print_range-at.ensures.1 in (
       omega arith,
       omega (arith, p.print_range-at.ensures.0),
-      p.print_range-at.auto.1.1.1.1.0 ∙ l.loop-i.invariant.2,
+      p.print_range-at.auto.out ∙ l.loop-i.invariant.2,
       rw (shows_more s.args.number (to_z w32 (of_z w32 s.args.answer)) l.loop-i.i s.args.listing.now) at more,
     )
 
