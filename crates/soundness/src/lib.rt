@@ -1,6 +1,7 @@
 // MODEL 9: whether bytes are a sound record, in one pass over them. The cells that the running tasks hold are marked as bits, no cell twice, and
 // the clear bits of each column are compared with its intervals.
 #![tactic(auto)]
+
 ghost use Rattle.std.specs.Prelude.{◌≡◌, ◌+◌, ◌<◌, length, get_or, ltb, []};
 ghost use Rattle.model.specs.Limits.{max_columns, record_size, columns_at, running_at};
 ghost use Rattle.model.specs.Columns.{device_ok};
