@@ -38,7 +38,7 @@ pub record Drafted (draft : List ℕ) (used : ℕ) : Type 0 where
   pub most : used ≤ draft_room
   pub whole : used % block_size ≡ 0
 
--- a card: the record of a device and a book within the limits. That is to be sound (model/specs/Laws/Sound.antt, `sound_exactly`)
+-- a card: the record of a device and a book within the limits. That is to be sound (model/proofs/Laws/Sound.antt, `sound_exactly`)
 pub record Card (r : List ℕ) : Type 0 where
   pub within : within (device_of r) (book_of r) ≡ true
   pub is : r ≡ record_of (device_of r) (book_of r)

@@ -51,14 +51,18 @@ fn run<P: Print>(to: &P, input: &[u8]) -> io::Result<()> {
     Ok(())
 }
 
-// Tells which end failed and why, as `sheet: standard input: Is a directory`. The reason is the system's text, without its number.
+// The system's text of a fault, without the number behind it.
+fn reason(text: &str) -> &str {
+    match text.split_once(" (os error ") {
+        Some((before, _)) => before,
+        None => text,
+    }
+}
+
+// Tells which end failed and why, as `sheet: standard input: Is a directory`.
 fn tell<R: Eprint + AllocGlobal>(rt: &R, end: &str, fault: io::Error) -> io::Result<()> {
     let text = format!(in rt.alloc(); "{fault}")?;
-    let reason = match text.as_str().split_once(" (os error ") {
-        Some((before, _)) => before,
-        None => text.as_str(),
-    };
-    eprintln!(rt; "sheet: {end}: {reason}")
+    eprintln!(rt; "sheet: {end}: {}", reason(text.as_str()))
 }
 
 fn main(rt: HostRuntime) -> io::Result<()> {
