@@ -3,9 +3,10 @@
 
 usage: python3 tools/spell.py            in the repository, once, after port.py
 
-A dash in the name of a definition, a lemma, a field, a constructor or a local module becomes an underscore; a name in mixed case is
-parted by underscores, and a test whose name ends in a question mark gets a name with `is`. Functions, exported names, strings, inputs and outputs
-keep their names, and so do names that Rattle makes and names of the library. In comments and pages a name stands between backticks.
+A dash in the name of a definition, a lemma, a field, a constructor, a local module or in the `as` of an import becomes an underscore; a name in
+mixed case is parted by underscores, and a test whose name ends in a question mark gets a name with `is`. Functions, exported names, strings,
+inputs and outputs keep their names, and so do names that Rattle makes and names of the library. In comments and pages a name stands between
+backticks.
 Nothing is written where two names would fall together.
 """
 
@@ -16,6 +17,7 @@ import sys
 LETTERS = r"\w\-'?◌"
 SIGNATURE = re.compile(r"^\s*(?:(?:pub|abbrev|unfoldable|record|data|module|ruleset)\s+)*([^\s:(){},.;\[\]]+)\s*(?:\([^)]*\)\s*|\{[^}]*\}\s*)*:(?:\s|$)")
 MODULE = re.compile(r"^\s*(?:pub\s+)?module\s+([^\s:(){},.;\[\]]+)\s")
+ALIAS = re.compile(r" as ([a-z][\w']*(?:-[\w']+)+)(?=[,}\s])")
 USE = re.compile(r"^\s*(?:pub\s+)?(?:ghost\s+)?use\s+([^\s{;]+?)\.?\{([^}]*)\}")
 TESTS = {"in?": "is_in", "set?": "is_set", "both?": "is_in_both", "holds?": "is_holding"}
 KEYWORDS = {"where", "use", "module", "record", "data", "pub", "let", "in", "_", "--"}
@@ -46,13 +48,15 @@ def spelled(name):
 
 
 def declared():
-    """The names that definitions and lemmas have."""
+    """The names that definitions and lemmas have, and those that imports give."""
     names = set()
-    for path in files("crates", ".antt"):
+    for path in files("crates", (".antt", ".rt")):
         if of_a_function(path):
             continue
         for line in read(path).split("\n"):
-            for form in (SIGNATURE, MODULE):
+            if USE.match(line):
+                names |= set(ALIAS.findall(line))
+            for form in (SIGNATURE, MODULE) if path.endswith(".antt") else ():
                 found = form.match(line)
                 if found and not line.strip().startswith("--") and found.group(1) not in KEYWORDS:
                     names.add(found.group(1))
@@ -111,7 +115,7 @@ def main():
     changed = 0
     # edits and pages still have what port.py has turned elsewhere
     turned_before = {it.replace("_", "-"): spelled(it) for it in own if "_" in it and it.replace("_", "-") not in own}
-    for path in list(files("crates", (".antt", ".rt", ".edit"))) + list(files("docs", ".md")) + ["README.md"]:
+    for path in list(files("crates", (".antt", ".rt", ".edit"))) + list(files("docs", ".md")) + list(files("examples", ".md")) + ["README.md"]:
         text = read(path)
         new = turned(path, text, names if path.endswith((".antt", ".rt")) else turned_before | names, crates)
         if new != text:

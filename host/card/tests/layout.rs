@@ -35,13 +35,13 @@ fn of_header() -> BTreeMap<String, i64> {
         .collect()
 }
 
-/// What the model has: lines like `max-rows = 128`.
+/// What the model has: lines like `max_rows = 128`.
 fn of_model() -> BTreeMap<String, i64> {
     let lines = include_str!("../../../crates/model/specs/Limits.antt").lines();
     let parted = lines.filter_map(|line| line.split_once(" = "));
     parted
         .filter_map(|(name, value)| {
-            let name = name.replace('-', "_").to_uppercase();
+            let name = name.to_uppercase();
             Some((name, value.parse().ok()?))
         })
         .collect()

@@ -1,5 +1,5 @@
 //! The rows of `docs/PROOFS.md`. A cell of a row is a list of groups, such as
-//! ``[Book] `free`, `held`; [Laws/Cells] `free-cell` ``: a file, and names that it declares. The
+//! ``[Book] `free`, `held`; [Laws/Cells] `free_cell` ``: a file, and names that it declares. The
 //! paths of the files stand in lines `[Book]: path` at the end.
 
 /// A file, and names that stand in it.

@@ -9,10 +9,10 @@ use std::process::Command;
 
 use documents::top;
 
-/// The files of the small repository. What they hold is not looked at, save `crates.txt`.
+/// The files of the small repository. What they hold is not looked at, save `crates.txt` and the mark of an export.
 const FILES: [(&str, &str); 13] = [
     ("crates.txt", "# ground up\nground staticlib:\nprogram:\n"),
-    ("crates/ground/src/lib.rt", ""),
+    ("crates/ground/src/lib.rt", "#[unsafe(no_mangle)]\n"),
     ("crates/ground/must-fail/wrong.edit", ""),
     ("crates/program/src/main.rt", ""),
     ("crates/program/stdin", ""),
@@ -32,8 +32,8 @@ fn ground::f: proved
 rt: ground proved
 rt: program proved
 rt: must-fail ground/wrong.edit: refused, as it must be: ./proofs/f/Answers.antt:1:2: error: `returns`
-rt: program ran (as LLVM builds it), and wrote what its file stdout has
-rt: program ran (as Rattle's own compiler builds it), and wrote what its file stdout has
+rt: program ran, and wrote what its file stdout has
+rt: program ran (built by Rattle's own compiler), and wrote what its file stdout has
 rt: ok; handles allowed: none; must-fail edits: 1 refused; every proof and must-fail edit was done in this run
 3 passed, 0 failed
 ";
@@ -198,11 +198,12 @@ fn a_crate_that_is_kept_passes() {
 
 #[test]
 fn a_program_that_did_not_run_fails() {
-    let small = Small::new("program");
-    for _ in 0..2 {
-        small.say("ci", "program ran", "program was not run");
+    for (name, ran) in [
+        ("program", "program ran,"),
+        ("built-again", "program ran ("),
+    ] {
+        assert_eq!(when_said(name, "ci", ran, "program was not run"), ONE_LESS);
     }
-    assert_eq!(small.last_line(), ONE_LESS);
 }
 
 #[test]
@@ -298,6 +299,16 @@ fn a_step_that_fails_is_counted() {
     // Tests run twice.
     let last = with_file("test", "said/no-test");
     assert_eq!(last, TWO_FAULTS);
+}
+
+#[test]
+fn a_static_library_that_is_missing_fails() {
+    let library = Small::new("no-library");
+    library.write("crates.txt", "ground:\nprogram:\n");
+    assert_eq!(library.last_line(), ONE_FAULT);
+    let export = Small::new("no-export");
+    export.write("crates/ground/src/lib.rt", "");
+    assert_eq!(export.last_line(), ONE_FAULT);
 }
 
 #[test]
