@@ -5,7 +5,7 @@ use std::env;
 use std::fs;
 use std::os::unix::fs::symlink;
 use std::path::{Path, PathBuf};
-use std::process::Command;
+use std::process::{self, Command};
 
 use documents::top;
 
@@ -78,17 +78,23 @@ fn report(tests: &[(&str, u32)]) -> String {
     tests.iter().map(line).collect()
 }
 
-/// A repository of its own for a test.
+/// A repository of its own for a test. It lies outside this one, in which the gate wants no other, and goes with the test.
 struct Small {
     top: PathBuf,
+}
+
+impl Drop for Small {
+    fn drop(&mut self) {
+        let _ = fs::remove_dir_all(&self.top);
+    }
 }
 
 impl Small {
     /// One in which all is well.
     fn new(name: &str) -> Small {
-        let top = Path::new(env!("CARGO_TARGET_TMPDIR")).join("gate-tests");
+        let folder = format!("wallarnica-gate-{}-{name}", process::id());
         let small = Small {
-            top: top.join(name),
+            top: env::temp_dir().join(folder),
         };
         let _ = fs::remove_dir_all(&small.top);
         for (path, text) in FILES {

@@ -3,13 +3,15 @@
 
 use std::env;
 use std::os::unix::fs::symlink;
-use std::path::{Path, PathBuf};
+use std::path::Path;
 use std::process::{Command, Output};
+
+use crate::Repository;
 
 const SHEET: &str = "rows kinds\n";
 
 /// A repository in which nothing is built, with a sheet.
-fn repository(name: &str) -> PathBuf {
+fn repository(name: &str) -> Repository {
     crate::repository(name, SHEET)
 }
 

@@ -6,12 +6,14 @@ use std::process::{Command, Output, Stdio};
 
 use oracle::sheet::sheet;
 
+use crate::Repository;
+
 /// A sheet that is right, with a line for each range of an empty card.
 const SHEET: &str =
     "rows kinds\n5 CCB\ncall task column kind bottom top\nB 0 0 C 0 2\nL 0 0 - 0 0\n";
 
 /// A repository with the built program, which is newer than its sources, and the sheet.
-fn repository(name: &str) -> PathBuf {
+fn repository(name: &str) -> Repository {
     let top = crate::repository(name, SHEET);
     fs::create_dir_all(top.join("target/bin")).expect("a new folder");
     fs::copy(sheets::program(), top.join("target/bin/sheet")).expect("the program is built");
