@@ -1,6 +1,5 @@
 -- What is proved of a record checked in one pass.
 pub mod Judged
-pub mod Prior
 pub mod Unused
 pub mod Entries
 pub mod Columns

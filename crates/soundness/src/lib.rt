@@ -10,7 +10,8 @@ ghost use Rattle.model.specs.Record.{column_part, device_of, book_of};
 ghost use Rattle.model.specs.Sound.{sound};
 ghost use Rattle.cells.specs.Ends.{PartIs};
 ghost use Rattle.record.specs.Entries.{entry_of, HasEntry};
-ghost use Rattle.soundness.specs.Soundness.{prior, TasksHeld, ColumnOk, ColumnsOk, HasPart, Unused, Legible, Judged};
+ghost use Rattle.record.specs.Rebuild.{prior};
+ghost use Rattle.soundness.specs.Soundness.{TasksHeld, ColumnOk, ColumnsOk, HasPart, Unused, Legible, Judged};
 
 use cells::fill;
 use marks::{ALL_WORDS, COLUMN_WORDS, mark_task};

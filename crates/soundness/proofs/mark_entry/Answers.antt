@@ -4,7 +4,8 @@ use native.Mathlib.Omega.{arith}
 use Rattle.model.proofs.Laws.WriteBack.{Bytes}
 use Rattle.soundness.specs.Laws.Judged.{judged_no}
 use Rattle.soundness.specs.Laws.Unused.{rest_zero, rest_refused}
-use Rattle.soundness.specs.Laws.Entries.{refused_number, refused_none, refused_many, passes, refused_form, block_sized, step_entry, small_word}
+use Rattle.record.specs.Laws.Rebuild.{refused_number, refused_none, refused_many, passes}
+use Rattle.soundness.specs.Laws.Entries.{refused_form, block_sized, step_entry, small_word}
 use Rattle.soundness.proofs.mark_entry.Goals as goal
 
 pub returns-then-not-rises : goal.returns-then-not-rises

@@ -1,5 +1,5 @@
 -- `soundness::rises`: the first entry, and one with an entry before it. Assumes nothing.
-use Rattle.soundness.specs.Laws.Entries.{rises_first, rises_next}
+use Rattle.record.specs.Laws.Rebuild.{rises_first, rises_next}
 use Rattle.soundness.proofs.rises.Goals as goal
 
 pub returns-then-j-eq0 : goal.returns-then-j-eq0

@@ -1,13 +1,11 @@
 -- Why the entries' pass is right: in a sound record every running task passes each test, and one that passes is within the limits. Assumes nothing.
-use Prim.Native.Nat.{ℕ, suc, ◌+◌, ◌-◌, ◌*◌, ◌%◌, ◌≤◌, ◌<◌}
+use Prim.Native.Nat.{ℕ, ◌+◌, ◌*◌, ◌%◌, ◌≤◌, ◌<◌}
 use Rattle.std.specs.Prelude.{◌≡◌, Bool, false, ◌||◌, List, length, take}
 use Rattle.std.proofs.Math.Path.{refl, sym, ap}
 use Rattle.std.proofs.Common.{◌∙◌, add-one, le-leb, eq-eqb, ne_eqb, take-suc, length-take-le}
 use Rattle.std.proofs.Math.Bool.{true, or_comm}
 use native.Mathlib.Omega.{arith}
 use borrow.Author.Count.{below_more}
-use Rattle.std.proofs.Math.Dec.{ltb}
-use Rattle.runs.specs.Laws.Tests.{tests}
 use Rattle.model.specs.Limits.{max_blocks, block_size, words}
 use Rattle.model.specs.Columns.{Device, kind, height}
 use Rattle.model.specs.Tasks.{word, sized, well_formed}
@@ -28,8 +26,9 @@ use Rattle.model.proofs.Laws.Sound.{sound_within}
 use Rattle.marks.specs.Marks.{all_words, TaskMarked}
 use Rattle.record.specs.Entries.{entry_of, blocks_of, bytes_entry, HasEntry}
 use Rattle.record.specs.Laws.Said.{number_said, in_book, entry_by_bytes, blocks_length}
-use Rattle.soundness.specs.Laws.Prior.{prior_below, prior_above, insert_last, fits_among}
-use Rattle.soundness.specs.Soundness.{prior, Passes, RestZero, TasksHeld, Judged}
+use Rattle.record.specs.Laws.Before.{prior_above, insert_last, fits_among}
+use Rattle.record.specs.Rebuild.{Passes}
+use Rattle.soundness.specs.Soundness.{RestZero, TasksHeld, Judged}
 
 sized_of : (t : List ℕ) (n : ℕ) → length t ≡ block_size * n → 1 ≤ n → n ≤ max_blocks → sized t ≡ true
 unfolding sized
@@ -40,19 +39,6 @@ pub small_word : (r : List ℕ) (i : ℕ) → Bytes r → word r i < words
 unfolding word
 small_word r i B = omega (arith, B i, B (i + 1))
 
--- whether its number n rises, from its bytes and those of the entry before it
-module _ (r : List ℕ) (j n : ℕ) (x : HasEntry r j) (e : n ≡ word r (entry_at j)) where
-  pub rises_first : j ≡ 0 → ltb 0 n ≡ ltb (prior 0 (book_of r) j) (entry_of r j).number
-  unfolding prior
-  rises_first z = rw (e, ← number_said r j x.runs) (ap (λ (i : ℕ). ltb (prior 0 (book_of r) i) (entry_of r j).number) (sym z))
-
-  pub rises_next : (m : ℕ) → (j ≡ 0 → ⊥) → m ≡ word r (entry_at (j - 1)) → ltb m n ≡ ltb (prior 0 (book_of r) j) (entry_of r j).number
-  unfolding prior
-  rises_next m z q =
-      let k : suc (j - 1) ≡ j = omega arith in
-      rw (e, q, ← number_said r j x.runs, ← number_said r (j - 1) (omega (arith, x.runs)))
-      (ap (λ (i : ℕ). ltb (prior 0 (book_of r) i) (entry_of r j).number) k)
-
 -- ---- in a sound record entry j passes the tests
 
 module _ (r : List ℕ) (j : ℕ) (x : HasEntry r j) (s : sound r ≡ true) where
@@ -62,13 +48,6 @@ module _ (r : List ℕ) (j : ℕ) (x : HasEntry r j) (s : sound r ≡ true) wher
   in_limits : Entry (device_of r) (entry_of r j)
   in_limits = (limits_to (device_of r) (book_of r) (sound_within r s)).entries (entry_of r j) (get_d_in (book_of r) j no_entry (in_book r j x))
 
-  sound_passes : Passes r j
-  sound_passes = record {
-    rises = prior_below 0 (book_of r) (limits_to (device_of r) (book_of r) (sound_within r s)).rising j (in_book r j x);
-    some_blocks = count_sound.0;
-    few_blocks = count_sound.1;
-  }
-
   sound_formed : well_formed (blocks_of r j) ≡ true
   sound_formed = rw (entry_by_bytes r j x count_sound.1) at in_limits.well_formed
 
@@ -76,19 +55,6 @@ module _ (r : List ℕ) (j : ℕ) (x : HasEntry r j) (s : sound r ≡ true) wher
   sound_fits = rw (entry_by_bytes r j x count_sound.1) at (fits_among (device_of r) (book_of r) j (in_book r j x) (sound_within r s))
 
 -- so where a test fails, the record is not sound
-module _ (r : List ℕ) (j : ℕ) (x : HasEntry r j) where
-  pub refused_number : (ok : Bool) → ok ≡ ltb (prior 0 (book_of r) j) (entry_of r j).number → ok ≡ false → sound r ≡ false
-  refused_number ok e f = is_false (sound r) (λ s. let h = sym e ∙ f in let q = (sound_passes r j x s).rises in omega tests)
-
-  pub refused_none : (n : ℕ) → n ≡ block_count r j → n ≡ 0 → sound r ≡ false
-  refused_none n e h = is_false (sound r) (λ s. omega (arith, (sound_passes r j x s).some_blocks))
-
-  pub refused_many : (n : ℕ) → n ≡ block_count r j → max_blocks < n → sound r ≡ false
-  refused_many n e h = is_false (sound r) (λ s. omega (arith, (sound_passes r j x s).few_blocks))
-
-  pub passes : (ok : Bool) → ok ≡ ltb (prior 0 (book_of r) j) (entry_of r j).number → ok ≡ true → (n : ℕ) → n ≡ block_count r j → (n ≡ 0 → ⊥) → n ≤ max_blocks → Passes r j
-  passes ok e t n c some few = let h = sym e ∙ t in record { rises = omega tests; some_blocks = omega arith; few_blocks = omega arith }
-
 module _ (r : List ℕ) (j : ℕ) (x : HasEntry r j) (few : block_count r j ≤ max_blocks) where
   is : entry_of r j ≡ bytes_entry r j
   is = entry_by_bytes r j x few
