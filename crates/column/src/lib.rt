@@ -19,6 +19,14 @@ pub struct Interval {
     pub top: u32,
 }
 
+// MODEL 8.3: the part of a record that lists a column's free intervals, and how many they are.
+#[derive(Clone, Copy)]
+pub struct Column<'a> {
+    pub part: &'a [u8],
+    pub count: usize,
+    ghost listed: { Part part.now count },
+}
+
 // The interval in which all that was asked for lies.
 #[derive(Drop)]
 pub enum Held {

@@ -2,7 +2,7 @@
 // The model's definitions are those of model/specs/Tasks.antt; specs/ here ties the code's blocks to the model's.
 #![tactic(auto)]
 
-ghost use Rattle.std.specs.Prelude.{◌≡◌, ◌+◌, ◌*◌, ◌≤◌, ◌<◌, length, get_or, eqb};
+ghost use Rattle.std.specs.Prelude.{◌≡◌, true, ◌+◌, ◌*◌, ◌≤◌, ◌<◌, length, get_or, eqb};
 ghost use Rattle.model.specs.Limits.{block_size, max_kind, words};
 ghost use Rattle.model.specs.Columns.{height, kind_C};
 ghost use Rattle.model.specs.Tasks.{lifted, block, sized, block_ok, follows, well_formed, step};
@@ -33,6 +33,21 @@ pub struct Extent {
 pub enum BlockRead {
     Of(Block),
     Bad,
+}
+
+// MODEL 4.1 and 4.4: the bytes of a task that has the length of one and is well-formed.
+#[derive(Clone, Copy)]
+pub struct Task<'a> {
+    pub bytes: &'a [u8],
+    ghost sized: { sized bytes.now ≡ true },
+    ghost well_formed: { well_formed bytes.now ≡ true },
+}
+
+// MODEL 6.1: where a task is placed: its first block's column, and what its blocks are moved up by.
+#[derive(Clone, Copy)]
+pub struct Position {
+    pub column: u32,
+    pub bottom: u32,
 }
 
 impl Block {
