@@ -5,7 +5,10 @@
 ghost use Rattle.std.specs.Prelude.{◌≡◌, ◌/◌, ◌%◌, ◌≤◌, eqb};
 ghost use Rattle.model.specs.Limits.{max_rows};
 ghost use Rattle.model.specs.Columns.{height, cells_in, top_in};
-ghost use Rattle.model.specs.Kinds.{number_of, kind_of};
+ghost use Rattle.model.specs.Kinds.{number_of, kind_of, kind_read};
+
+use std::error::Error;
+use std::fmt;
 
 // MODEL 2.2 to 2.8: the limits; and the highest number of a kind (MODEL 3.3).
 pub const MAX_ROWS: u32 = 128;
@@ -92,12 +95,51 @@ pub const COLUMN_WEIGHT: u32 = 1024;
 pub const WHOLE_DEGREE: u32 = 10000;
 
 // MODEL 3.3: the kind of a column: logic (CLB), memory (BRAM) or multiplier (DSP).
-#[derive(Clone, Copy)]
+#[derive(Clone, Copy, Debug, PartialEq, Eq)]
 pub enum Kind {
     C,
     B,
     D,
 }
+
+// A byte that is no kind's number.
+#[derive(Clone, Copy, Debug, PartialEq, Eq)]
+pub struct UnknownKind(pub u8);
+
+impl TryFrom<u8> for Kind {
+    type Error = UnknownKind;
+
+    ghost try_from_gives = { λ n r. r ≡ kind_of n };
+
+    fn try_from(number: u8) -> Result<Self, UnknownKind> {
+        match number {
+            0 => Ok(Kind::C),
+            1 => Ok(Kind::B),
+            2 => Ok(Kind::D),
+            _ => Err(UnknownKind(number)),
+        }
+    }
+}
+
+impl From<Kind> for u8 {
+    ghost from_gives = { λ kind r. r ≡ number_of kind };
+
+    fn from(kind: Kind) -> u8 {
+        match kind {
+            Kind::C => 0,
+            Kind::B => 1,
+            Kind::D => 2,
+        }
+    }
+}
+
+impl fmt::Display for UnknownKind {
+    fn fmt<W: fmt::Write>(&self, f: &mut fmt::Formatter<W>) -> fmt::Result {
+        write!(f, "no kind has number {}", self.0)
+    }
+}
+
+impl Error for UnknownKind {}
 
 // What a kind byte says.
 #[derive(Drop)]
@@ -173,22 +215,16 @@ impl Kind {
     pub fn number(self) -> u8
         ensures { result ≡ number_of self }
     {
-        match self {
-            Kind::C => 0,
-            Kind::B => 1,
-            Kind::D => 2,
-        }
+        u8::from(self)
     }
 
     // The kind that a kind byte says.
     pub fn of_byte(byte: u8) -> KindRead
-        ensures { result ≡ kind_of byte }
+        ensures { result ≡ kind_read byte }
     {
-        match byte {
-            0 => KindRead::Known(Kind::C),
-            1 => KindRead::Known(Kind::B),
-            2 => KindRead::Known(Kind::D),
-            _ => KindRead::Unknown,
+        match Kind::try_from(byte) {
+            Ok(kind) => KindRead::Known(kind),
+            Err(_) => KindRead::Unknown,
         }
     }
 }
