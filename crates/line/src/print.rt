@@ -1,8 +1,61 @@
-// MODEL 18.3 and 18.4: lines of output, written into a lent buffer. Each function answers the place after what it wrote.
-ghost use Rattle.std.specs.Prelude.{◌≡◌, true, pos, nat_abs, length, ◌+◌, ◌≤◌, ◌<◌};
+// MODEL 18.1, 18.3 and 18.4: the names and the lines of output, as text.
+ghost use Rattle.std.specs.Prelude.{◌≡◌, true, pos, nat_abs, length, ◌+◌, ◌≤◌, ◌<◌, [], ◌∷◌, ◌++◌};
+ghost use Rattle.arrayvec.specs.ArrayString.{array_string_len};
 ghost use Rattle.std.specs.Int.Signed.{lt_z};
 ghost use Rattle.model.specs.Sheet.{shown, output_line};
 ghost use Rattle.line.specs.Print.{Printed, line_room, spaced, names_line};
+
+use crate::LINE_ROOM;
+use arrayvec::ArrayString;
+use itoa::{Buffer, Integer};
+
+// MODEL 18.3: a line of output, by its six numbers.
+#[derive(Clone, Copy)]
+pub struct OutputLine {
+    pub line: u32,
+    pub answer: i32,
+    pub column: u32,
+    pub first: u32,
+    pub step: u32,
+    pub last: u32,
+}
+
+// A number, and the byte after it.
+fn push_number<I: Integer>(text: &mut ArrayString<LINE_ROOM>, number: I, after: char)
+    requires ascii { after < 128 }
+    requires room { array_string_len text.old + I.MAX_STR_LEN + 1 ≤ line_room }
+    ensures bytes { text.new.bytes ≡ text.old.bytes ++ I.text number ++ after ∷ [] }
+    ensures grows { array_string_len text.new ≤ array_string_len text.old + I.MAX_STR_LEN + 1 }
+{
+    text.push_str(Buffer::new().format(number));
+    text.push(after);
+}
+
+impl OutputLine {
+    // The line as text, with its newline.
+    pub fn text(self) -> ArrayString<LINE_ROOM>
+        ensures text { result.bytes ≡ output_line self.line self.answer self.column self.first self.step self.last }
+        ensures fits { array_string_len result ≤ line_room }
+    {
+        let mut text = ArrayString::new();
+        push_number(&mut text, self.line, ' ');
+        push_number(&mut text, self.answer, ' ');
+        push_number(&mut text, self.column, ' ');
+        push_number(&mut text, self.first, ' ');
+        push_number(&mut text, self.step, ' ');
+        push_number(&mut text, self.last, '\n');
+        text
+    }
+}
+
+// MODEL 18.1: the names of the output, with their newline.
+pub fn names() -> &'static str
+    ensures { result.now ≡ names_line }
+{
+    "line answer column first step last\n"
+}
+
+// ---- written into a lent buffer; each function answers the place after what it wrote
 
 // The decimal digits of a number: all but the last, and then the last.
 pub fn print_natural(out: &mut [u8], at: usize, value: u32) -> usize

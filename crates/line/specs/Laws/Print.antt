@@ -8,6 +8,8 @@ use Rattle.runs.specs.Laws.Tests.{lt_or_ge}
 use Rattle.model.specs.Sheet.{text, digits, shown, output_line}
 use Rattle.model.specs.Parts.{splice}
 use Rattle.model.proofs.Laws.Parts.{set_splice, splice_more}
+use Rattle.std.specs.Fmt.{decimal, signed_decimal}
+use Rattle.std.proofs.lemmas.Fmt.{AppendsLastDigit, decimal_from_appends, length-decimal-le}
 use Rattle.line.specs.Print.{Printed}
 
 -- ---- digits
@@ -67,6 +69,20 @@ pub shown_plain : (z : ℤ) → lt_z z (pos 0) ≡ false → shown z ≡ shown (
 shown_plain (pos n) e = refl
 shown_plain (negsuc n) e = cc
 
+-- ---- the model's numbers are what std prints
+
+appends : AppendsLastDigit digits
+appends = record { one = step_small; more = step_last }
+
+shown_decimal : (n : ℕ) → n < 4294967296 → shown (pos n) ≡ decimal n
+unfolding shown
+shown_decimal n h = digits_more 9 n (omega arith) ∙ decimal_from_appends digits appends 10 n (omega arith) (length-decimal-le 10 n (omega arith) (omega arith) (omega arith))
+
+shown_signed : (z : ℤ) → mag z < 2147483648 → shown z ≡ signed_decimal z
+unfolding shown
+shown_signed (pos n) h = shown_decimal n (omega arith)
+shown_signed (negsuc n) h = ap (λ l. code "-" ∷ l) (shown_decimal (suc n) (omega arith))
+
 -- `-1 - z` of a negative z
 pub flipped : (z : ℤ) → lt_z z (pos 0) ≡ true → (negsuc 0 -ℤ z ≡ pos (mag z)) × (nat_abs z ≡ mag z + 1)
 flipped (pos n) e = (cc (leb-suc-zero n), cc (leb-suc-zero n))
@@ -122,3 +138,10 @@ module _ (line : ℕ) (answer : ℤ) (column first step last : ℕ) where
       let e3 = printed_more (omega (arith, p5.place, p6.place)) e2 p4 in
       let e4 = printed_more (omega (arith, p6.place)) e3 p5 in
       rw line_same (printed_more h (printed_more (omega (arith, p6.place)) e4 p6) (printed_byte {before = v} {at = f} (code "\n") k))
+
+  -- the line as std prints its numbers
+  pub line_decimal : line < 4294967296 → mag answer < 2147483648 → column < 4294967296 → first < 4294967296 → step < 4294967296 → last < 4294967296
+      → output_line line answer column first step last
+      ≡ decimal line ++ (32 ∷ []) ++ signed_decimal answer ++ (32 ∷ []) ++ decimal column ++ (32 ∷ []) ++ decimal first ++ (32 ∷ []) ++ decimal step ++ (32 ∷ []) ++ decimal last ++ (10 ∷ [])
+  unfolding output_line
+  line_decimal h1 h2 h3 h4 h5 h6 = rw (shown_decimal line h1, shown_signed answer h2, shown_decimal column h3, shown_decimal first h4, shown_decimal step h5, shown_decimal last h6)
