@@ -1,12 +1,10 @@
 -- MODEL 4 and 21.6: the code's blocks and the model's. Assumes nothing.
-use Rattle.std.specs.Prelude.{◌≡◌, Bool, true, false, ◌&&◌, List, ℕ, ◌<◌, eqb}
+use Rattle.std.specs.Prelude.{◌≡◌, Bool, true, false, ◌&&◌, List, ℕ, ◌<◌, eqb, Option, Some, None}
 use Rattle.model.specs.Limits.{max_kind, reach}
 use Rattle.model.specs.Kinds.{number_of}
 use Rattle.model.specs.Tasks as model
 use Rattle.task.specs.declared.Block.{Block}
 use Rattle.task.specs.declared.Extent.{Extent}
-use Rattle.task.specs.declared.BlockRead.{BlockRead}
-use Rattle.task.specs.declared.BlockRead.TheVariants.{Of, Bad}
 
 -- MODEL 4.2: a block of the code, as the model has it
 abbrev pub seen : Block → model.Block
@@ -26,14 +24,14 @@ pub record SameExtent (e : Extent) (m : model.Block) : Type 0 where
   pub high : e.high ≡ m.high
 
 -- MODEL 4.8: what reading the model's block m answers, a block where its kind is one, and else none
-abbrev pub Reads : BlockRead → model.Block → Type 0
-Reads (Of b) m = Same b m
-Reads Bad m = max_kind < m.kind
+abbrev pub Reads : Option Block → model.Block → Type 0
+Reads (Some b) m = Same b m
+Reads None m = max_kind < m.kind
 
 -- MODEL 4.6 and 4.8 to 4.10: the same of a block that has to be one of a well-formed task by itself
-abbrev pub ReadsSolid : BlockRead → model.Block → Type 0
-ReadsSolid (Of b) m = Same b m × (model.block_ok m ≡ true)
-ReadsSolid Bad m = model.block_ok m ≡ false
+abbrev pub ReadsSolid : Option Block → model.Block → Type 0
+ReadsSolid (Some b) m = Same b m × (model.block_ok m ≡ true)
+ReadsSolid None m = model.block_ok m ≡ false
 
 -- MODEL 4.5: column and bottom of the first block are 0
 unfoldable pub starts : List ℕ → Bool

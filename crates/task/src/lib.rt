@@ -2,10 +2,10 @@
 // The model's definitions are those of model/specs/Tasks.antt; specs/ here ties the code's blocks to the model's.
 #![tactic(auto)]
 
-ghost use Rattle.std.specs.Prelude.{◌≡◌, true, ◌+◌, ◌*◌, ◌≤◌, ◌<◌, length, get_or, eqb};
-ghost use Rattle.model.specs.Limits.{block_size, max_kind, words};
+ghost use Rattle.std.specs.Prelude.{◌≡◌, true, false, ◌+◌, ◌*◌, ◌≤◌, ◌<◌, ◌↔◌, length, get_or, eqb, IfOk, IsErrOf};
+ghost use Rattle.model.specs.Limits.{block_size, max_kind, max_blocks, words};
 ghost use Rattle.model.specs.Columns.{height, kind_C};
-ghost use Rattle.model.specs.Tasks.{lifted, block, sized, block_ok, follows, well_formed, step};
+ghost use Rattle.model.specs.Tasks.{lifted, block, blocks, sized, block_ok, follows, well_formed, step};
 ghost use Rattle.task.specs.Blocks.{seen, Same, SameExtent, Reads, ReadsSolid, starts};
 
 use model::{Kind, KindRead};
@@ -28,19 +28,19 @@ pub struct Extent {
     pub high: u32,
 }
 
-// MODEL 4.8: what a block's bytes say. They are bad where the kind byte is no kind.
-#[derive(Drop)]
-pub enum BlockRead {
-    Of(Block),
-    Bad,
-}
-
 // MODEL 4.1 and 4.4: the bytes of a task that has the length of one and is well-formed.
 #[derive(Clone, Copy)]
 pub struct Task<'a> {
     pub bytes: &'a [u8],
     ghost sized: { sized bytes.now ≡ true },
     ghost well_formed: { well_formed bytes.now ≡ true },
+}
+
+// Why bytes are no task: their length is none of a task's, or they are not well-formed.
+#[derive(Clone, Copy, Debug, PartialEq, Eq)]
+pub enum TaskFault {
+    Length,
+    Form,
 }
 
 // MODEL 6.1: where a task is placed: its first block's column, and what its blocks are moved up by.
@@ -57,6 +57,55 @@ impl Block {
     {
         let kind = self.kind;
         kind.height()
+    }
+}
+
+impl<'a> Task<'a> {
+    // MODEL 4.1 and 4.4: the bytes as a task's, where they are one's.
+    pub fn read(bytes: &'a [u8]) -> Result<Task<'a>, TaskFault>
+        ensures ok { IfOk result (λ t. t.bytes.now ≡ bytes.now) }
+        ensures length { IsErrOf result TaskFault.Length ↔ (sized bytes.now ≡ false) }
+        ensures form { IsErrOf result TaskFault.Form ↔ ((sized bytes.now ≡ true) × (well_formed bytes.now ≡ false)) }
+    {
+        if !sized(bytes) {
+            return Err(TaskFault::Length);
+        }
+        if !well_formed(bytes) {
+            return Err(TaskFault::Form);
+        }
+        Ok(Task { bytes })
+    }
+
+    // MODEL 4.1: how many blocks it has.
+    pub fn count(self) -> usize
+        ensures count { result ≡ blocks self.entry.bytes.now }
+        ensures some { 0 < result }
+        ensures few { result ≤ max_blocks }
+    {
+        self.bytes.len() / model::BLOCK_SIZE
+    }
+
+    // MODEL 4.2: its block k.
+    pub fn block(self, k: usize) -> Block
+        requires { k < blocks self.bytes.now }
+        ensures { Same result (block self.entry.bytes.now k) }
+    {
+        block_at(self.bytes, k)
+    }
+
+    // MODEL 4.2: where its block k is.
+    pub fn extent(self, k: usize) -> Extent
+        requires { k < blocks self.bytes.now }
+        ensures { SameExtent result (block self.entry.bytes.now k) }
+    {
+        extent_at(self.bytes, k)
+    }
+
+    // MODEL 10.1: its step.
+    pub fn step(self) -> u32
+        ensures { result ≡ step self.entry.bytes.now }
+    {
+        step(self.bytes)
     }
 }
 
@@ -81,38 +130,30 @@ pub fn extent_at(task: &[u8], i: usize) -> Extent
     }
 }
 
-// MODEL 4.2: block i of a task.
-pub fn read_block(task: &[u8], i: usize) -> BlockRead
+// MODEL 4.2 and 4.8: block i of a task, where its kind byte is a kind's.
+pub fn read_block(task: &[u8], i: usize) -> Option<Block>
     requires { block_size * i + block_size ≤ length task.now }
     ensures { Reads result (block task.now i) }
 {
     let at = model::BLOCK_SIZE * i;
     let KindRead::Known(kind) = Kind::of_byte(task[at + model::BLOCK_KIND_AT]) else {
-        return BlockRead::Bad;
+        return None;
     };
     let extent = extent_at(task, i);
-    BlockRead::Of(Block {
+    Some(Block {
         column: extent.column,
-        kind: kind,
+        kind,
         low: extent.low,
         high: extent.high,
     })
 }
 
-// Block i of a task, where its kind is known: the other branch is never taken.
+// Block i of a task, where its kind is known.
 pub fn block_at(task: &[u8], i: usize) -> Block
     requires { (block_size * i + block_size ≤ length task.now) × ((block task.now i).kind ≤ max_kind) }
     ensures { Same result (block task.now i) }
 {
-    let BlockRead::Of(b) = read_block(task, i) else {
-        return Block {
-            column: 0,
-            kind: Kind::C,
-            low: 0,
-            high: 0,
-        };
-    };
-    b
+    read_block(task, i).unwrap()
 }
 
 // MODEL 4.1: whether the bytes are those of 1 to 32 whole blocks.
@@ -186,17 +227,11 @@ fn starts_at_zero(task: &[u8]) -> bool
 }
 
 // Block i of a task, where by itself it is one of a well-formed task.
-fn solid_block(task: &[u8], i: usize) -> BlockRead
+fn solid_block(task: &[u8], i: usize) -> Option<Block>
     requires { block_size * i + block_size ≤ length task.now }
     ensures { ReadsSolid result (block task.now i) }
 {
-    let BlockRead::Of(b) = read_block(task, i) else {
-        return BlockRead::Bad;
-    };
-    if block_ok(b) {
-        return BlockRead::Of(b);
-    }
-    BlockRead::Bad
+    read_block(task, i).filter(|b| block_ok(*b))
 }
 
 // MODEL 4.4: whether a task is well-formed.
@@ -210,13 +245,13 @@ pub fn well_formed(task: &[u8]) -> bool
     if count == 0 {
         return true;
     }
-    let BlockRead::Of(first) = solid_block(task, 0) else {
+    let Some(first) = solid_block(task, 0) else {
         return false;
     };
     let mut last = first;
     let mut i = 1;
     while i < count {
-        let BlockRead::Of(next) = solid_block(task, i) else {
+        let Some(next) = solid_block(task, i) else {
             return false;
         };
         if !follows(last, next) {

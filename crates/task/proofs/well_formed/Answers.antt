@@ -22,7 +22,7 @@ returns-in_default c = ill_block _ 0 (omega (arith, c.if-count-eq0.false)) c.in_
 pub loop-i-init : goal.loop-i-init
 unfolding blocks
 loop-i-init c = let d = c in
-    tested_first _ _ (omega (arith, d.if-count-eq0.false)) c.in-Of.ensures
+    tested_first _ _ (omega (arith, d.if-count-eq0.false)) c.in-Some.ensures
 
 pub solid_block-requires-in-loop-i : goal.solid_block-requires-in-loop-i
 solid_block-requires-in-loop-i c = omega arith
@@ -35,7 +35,7 @@ pub returns-then-not-follows : goal.returns-then-not-follows
 unfolding blocks
 returns-then-not-follows c = let n = c in
     let d = n in
-    let s = n.in-Of-solid_block.ensures in
+    let s = n.in-Some-solid_block.ensures in
     ill_pair _ _ _ _ d.loop-i.invariant d.loop-i-test.true s.0 _ c.follows.ensures c.if-not-follows.true
 
 pub overflow_add-i : goal.overflow_add-i
@@ -48,7 +48,7 @@ pub loop-i-preserved : goal.loop-i-preserved
 unfolding blocks
 loop-i-preserved c = let n = c in
     let d = n in
-    let s = n.in-Of-solid_block.ensures in
+    let s = n.in-Some-solid_block.ensures in
     tested_next _ _ _ _ d.loop-i.invariant d.loop-i-test.true s.0 _ s.1 c.follows.ensures c.if-not-follows.false
 
 pub returns : goal.returns
