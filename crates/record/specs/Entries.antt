@@ -1,5 +1,5 @@
 -- MODEL 8.4: what the contracts of `entries` say. An entry is read, found by number, moved, put in and taken out. Assumes nothing.
-use Rattle.std.specs.Prelude.{ℕ, suc, ◌+◌, ◌-◌, ◌*◌, ◌≤◌, ◌<◌, ◌≡◌, false, List, ◌++◌, length, get_or, take, drop}
+use Rattle.std.specs.Prelude.{ℕ, suc, ◌+◌, ◌-◌, ◌*◌, ◌≤◌, ◌<◌, ◌≡◌, false, eqb, Option, List, ◌++◌, length, get_or, take, drop, position}
 use Rattle.model.specs.Limits.{max_running, block_size, record_size, running_at, blocks_at}
 use Rattle.model.specs.Columns.{Device}
 use Rattle.model.specs.Tasks.{word}
@@ -42,6 +42,10 @@ pub record Says (r : List ℕ) (j : ℕ) (e : Entry) : Type 0 where
   pub count : e.count ≡ block_count r j
   pub from : e.from ≡ entry_at j + blocks_at
   pub to : e.to ≡ entry_at j + blocks_at + block_size * block_count r j
+
+-- which entry of the book b has number n, if one has
+abbrev pub found : ℕ → Book → Option ℕ
+found n b = position (λ (e : Running). eqb e.number n) b
 
 -- what a search for number n in the book b answers: an entry of that number, or that none runs
 abbrev pub Finds : Book → ℕ → Found → Type 0

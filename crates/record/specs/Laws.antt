@@ -13,5 +13,6 @@ pub mod Join
 -- the record's calls
 pub mod Enter
 pub mod Fits
+pub mod Checked
 pub mod Before
 pub mod Rebuild

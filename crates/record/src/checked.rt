@@ -1,9 +1,84 @@
 // MODEL 9.1: bytes that are a sound record, as a type. Who has one need not check it again.
-ghost use Rattle.std.specs.Prelude.{◌≡◌, true};
-ghost use Rattle.model.specs.Sound.{sound};
+ghost use Rattle.std.specs.Prelude.{◌≡◌, true, ◌≤◌, ◌<◌, IfOk, IfErr};
+ghost use Rattle.model.specs.Limits.{max_columns};
+ghost use Rattle.model.specs.Columns.{columns, kind};
+ghost use Rattle.model.specs.Kinds.{number_of};
+ghost use Rattle.model.specs.Record.{device_of};
+ghost use Rattle.model.specs.Sound.{sound, count_of};
+ghost use Rattle.column.specs.Laws.Lent.{lent};
+ghost use Rattle.record.specs.Checked.{FaultOf};
+
+use crate::sound::sound;
+use column::Column;
+use model::{
+    COLUMN_SIZE, COLUMNS_AT, COUNTS_AT, INTERVALS_AT, KINDS_AT, Kind, KindRead, RECORD_SIZE,
+    ROWS_AT,
+};
+use words::get16;
 
 #[derive(Clone, Copy)]
 pub struct SoundRecord<'a> {
     pub bytes: &'a [u8],
     ghost sound: { sound bytes.now ≡ true },
+}
+
+// Why bytes are no sound record.
+#[derive(Clone, Copy, Debug, PartialEq, Eq)]
+pub enum RecordFault {
+    Length,
+    NotSound,
+}
+
+impl<'a> SoundRecord<'a> {
+    pub fn read(bytes: &'a [u8]) -> Result<SoundRecord<'a>, RecordFault>
+        ensures bytes { IfOk result (λ r. r.bytes.now ≡ bytes.now) }
+        ensures fault { IfErr result (FaultOf bytes.now) }
+    {
+        if bytes.len() != RECORD_SIZE {
+            return Err(RecordFault::Length);
+        }
+        if !sound(bytes) {
+            return Err(RecordFault::NotSound);
+        }
+        Ok(SoundRecord { bytes })
+    }
+
+    // MODEL 3.2: how many rows and columns the device has.
+    pub fn rows(self) -> u32
+        ensures { result ≡ (device_of self.entry.bytes.now).rows }
+    {
+        get16(self.bytes, ROWS_AT)
+    }
+
+    pub fn columns(self) -> usize
+        ensures count { result ≡ columns (device_of self.entry.bytes.now) }
+        ensures few { result ≤ max_columns }
+    {
+        usize::from(self.bytes[COLUMNS_AT])
+    }
+
+    // MODEL 3.3: the kind of column c.
+    pub fn kind(self, c: usize) -> Kind
+        requires { c < columns (device_of self.bytes.now) }
+        ensures { number_of result ≡ kind (device_of self.entry.bytes.now) c }
+    {
+        let KindRead::Known(kind) = Kind::of_byte(self.bytes[KINDS_AT + c]) else {
+            unreachable!()
+        };
+        kind
+    }
+
+    // MODEL 8.3: the part and the count of column c.
+    pub fn column(self, c: usize) -> Column<'a>
+        requires { c < max_columns }
+        ensures part { result.part.now ≡ lent self.entry.bytes.now c }
+        ensures count { result.count ≡ count_of self.entry.bytes.now c }
+    {
+        let a = INTERVALS_AT + COLUMN_SIZE * c;
+        let e = a + COLUMN_SIZE;
+        Column {
+            part: &self.bytes[a..e],
+            count: usize::from(self.bytes[COUNTS_AT + c]),
+        }
+    }
 }

@@ -3,10 +3,10 @@ ghost use Rattle.std.specs.Prelude.{◌≡◌, true, ◌<◌, length};
 ghost use Rattle.runs.specs.Intervals.{subtract};
 ghost use Rattle.model.specs.Limits.{max_columns, max_running, record_size, column_size};
 ghost use Rattle.model.specs.Tasks.{blocks};
-ghost use Rattle.model.specs.Book.{placed};
+ghost use Rattle.model.specs.Book.{placed, fits};
 ghost use Rattle.model.specs.Calls.{insert};
 ghost use Rattle.model.specs.Record.{part, column_at, record_of, device_of, book_of};
-ghost use Rattle.model.specs.Sound.{count_of, number_ok};
+ghost use Rattle.model.specs.Sound.{sound, count_of, number_ok};
 ghost use Rattle.model.specs.InPlace.{put_column};
 ghost use Rattle.column.specs.Part.{Room};
 ghost use Rattle.record.specs.Columns.{column_list};
@@ -14,7 +14,7 @@ ghost use Rattle.record.specs.Enter.{taken, Placeable};
 
 use crate::entries::{insert_entry, place_of};
 use model::{BLOCK_SIZE, COLUMN_SIZE, COUNTS_AT, INTERVALS_AT, REACH};
-use task::block_at;
+use task::{Position, Task, block_at};
 
 // Cuts bottom..top out of the intervals of column c, whose part is lent (MODEL 21.5).
 fn cut_column(record: &mut [u8], c: usize, bottom: u32, top: u32)
@@ -57,4 +57,15 @@ pub fn enter(record: &mut [u8], task: &[u8], number: u32, column: u32, bottom: u
     let k = place_of(record, number);
     take_blocks(record, task, column, bottom);
     insert_entry(record, k, task, number, column, bottom);
+}
+
+// Enters a task under a number at a position where it fits.
+pub fn enter_at(record: &mut [u8], task: Task<'_>, number: u32, at: Position)
+    requires sound { sound «record».old ≡ true }
+    requires fits { fits (device_of «record».old) (book_of «record».old) task.bytes.now at.column at.bottom ≡ true }
+    requires numbered { number_ok number ≡ true }
+    requires room { length (book_of «record».old) < max_running }
+    ensures { «record».new ≡ record_of (device_of «record».old) (insert (record { number = number; column = at.column; bottom = at.bottom; task = task.entry.bytes.now }) (book_of «record».old)) }
+{
+    enter(record, task.bytes, number, at.column, at.bottom);
 }

@@ -6,8 +6,9 @@ ghost use Rattle.model.specs.Record.{padded, part, entry_bytes, entry_at, book_o
 ghost use Rattle.model.specs.Sound.{sound};
 ghost use Rattle.model.specs.Parts.{splice, raised, lowered};
 ghost use Rattle.model.specs.InPlace.{place};
-ghost use Rattle.record.specs.Entries.{Finds, Says, Moved, Entered, Removed};
+ghost use Rattle.record.specs.Entries.{Finds, found, Says, Moved, Entered, Removed};
 
+use crate::checked::SoundRecord;
 use model::{
     BLOCK_SIZE, BLOCKS_AT, ENTRIES_AT, ENTRY_BOTTOM_AT, ENTRY_COLUMN_AT, ENTRY_COUNT_AT,
     ENTRY_SIZE, RUNNING_AT,
@@ -60,6 +61,23 @@ pub fn read_entry(record: &[u8], j: usize) -> Entry
         count: count,
         from: at + BLOCKS_AT,
         to: at + BLOCKS_AT + BLOCK_SIZE * count,
+    }
+}
+
+impl SoundRecord<'_> {
+    // How many tasks run.
+    pub fn running(self) -> usize
+        ensures count { result ≡ length (book_of self.entry.bytes.now) }
+        ensures few { result ≤ max_running }
+    {
+        running(self.bytes)
+    }
+
+    // Which entry has that number, if one has.
+    pub fn find(self, number: u32) -> Option<usize>
+        ensures { result ≡ found number (book_of self.entry.bytes.now) }
+    {
+        (0..self.running()).find(|&j| number_at(self.bytes, j) == number)
     }
 }
 

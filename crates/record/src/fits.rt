@@ -7,11 +7,12 @@ ghost use Rattle.model.specs.Sound.{sound};
 ghost use Rattle.task.specs.Blocks.{seen};
 ghost use Rattle.record.specs.Fits.{Listed, Movable, HeldIn};
 
+use crate::checked::SoundRecord;
 use column::{Held, holder};
 use model::{
     BLOCK_SIZE, COLUMN_SIZE, COLUMNS_AT, COUNTS_AT, INTERVALS_AT, KINDS_AT, MAX_ROWS, REACH,
 };
-use task::{Block, block_at};
+use task::{Block, Position, Task, block_at};
 use words::wide;
 
 // MODEL 6.4 and 6.5: whether one free interval of a column holds all half rows from bottom up to top.
@@ -72,4 +73,13 @@ pub fn fits(record: &[u8], task: &[u8], column: u32, bottom: u32) -> bool
         i += 1;
     }
     true
+}
+
+impl SoundRecord<'_> {
+    // MODEL 6.1 and 6.6: whether a task fits at a position, which may lie off the device.
+    pub fn fits(self, task: Task<'_>, at: Position) -> bool
+        ensures { result ≡ fits (device_of self.entry.bytes.now) (book_of self.entry.bytes.now) task.entry.bytes.now at.column at.bottom }
+    {
+        fits(self.bytes, task.bytes, at.column, at.bottom)
+    }
 }

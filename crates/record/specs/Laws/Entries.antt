@@ -1,11 +1,17 @@
 -- MODEL 8.4: entries found by their number, and the place of a number. Assumes nothing.
-use Rattle.std.specs.Prelude.{ℕ, zero, suc, ◌-◌, ◌≤◌, ◌<◌, ◌≡◌, refl, true, false, List, [], ◌∷◌, ◌++◌, eqb, length, get_or, take, drop}
-use Rattle.std.proofs.Common.{sym, ap, ◌∙◌, arith, lt-ltb, le-ltb, eq-eqb, ne_eqb}
+use Rattle.std.specs.Prelude.{ℕ, zero, suc, ◌+◌, ◌-◌, ◌≤◌, ◌<◌, ◌≡◌, refl, Bool, true, false, Option, None, Some, MatchOption, cond, ltb, List, [], ◌∷◌, ◌++◌, eqb, length, get_or, take, drop}
+use Rattle.std.proofs.Common.{◌⊎◌, inl, inr, sym, ap, ◌∙◌, arith, lt-ltb, le-ltb, eq-eqb, ne_eqb}
+use Rattle.std.specs.List.{position_or_len}
+use Rattle.std.specs.Option.{is_some}
+use Rattle.std.proofs.lemmas.List.Quantifiers.{position-Some}
+use Rattle.runs.specs.Laws.Tests.{tests, lt_or_ge}
+use Rattle.model.proofs.Laws.Bounded.{true_or_false}
+use Rattle.std.proofs.lemmas.List.Sums.{position_or_len_is}
 use Rattle.std.proofs.Math.Decide.{dec_lt}
 use Rattle.model.specs.Limits.{running_at}
 use Rattle.model.specs.Bounded.{any_in}
 use Rattle.model.specs.Tasks.{word}
-use Rattle.model.specs.Book.{Book}
+use Rattle.model.specs.Book.{Running, Book}
 use Rattle.model.specs.Calls.{without, runs_in}
 use Rattle.model.specs.Record.{entry_at, device_of, book_of}
 use Rattle.model.specs.Sound.{sound}
@@ -16,7 +22,7 @@ use Rattle.model.proofs.Laws.ReadBack.{get_d_in}
 use Rattle.model.proofs.Laws.Entries.{without_none}
 use Rattle.model.proofs.Laws.Sound.{running_said, sound_within}
 use Rattle.record.specs.declared.entries.Found.TheVariants.{At, Nowhere}
-use Rattle.record.specs.Entries.{Finds}
+use Rattle.record.specs.Entries.{found, Finds}
 use Rattle.record.specs.Laws.Said.{number_said}
 
 -- ---- found by number
@@ -38,6 +44,51 @@ found_at r n k q e = (omega (arith, running_said r), number_said r k q ∙ e)
 
 pub found_none : (r : List ℕ) (n : ℕ) → ((j : ℕ) → j < get_or r running_at 0 → word r (entry_at j) ≡ n → ⊥) → Finds (book_of r) n Nowhere
 found_none r n h = runs_none (book_of r) n (λ j q e. let l : j < get_or r running_at 0 = omega (arith, running_said r) in h j l (sym (number_said r j l) ∙ e))
+
+-- what a search over the entries' bytes finds is the first entry of that number
+module _ (r : List ℕ) (n m : ℕ) (all : m ≡ length (book_of r)) where
+  is : Running → Bool
+  is e = eqb e.number n
+
+  said : (k : ℕ) → k < m → (get_or (book_of r) k no_entry).number ≡ word r (entry_at k)
+  said k l = number_said r k (omega (arith, running_said r))
+
+  is_not : (k : ℕ) → k < m → (word r (entry_at k) ≡ n → ⊥) → is (get_or (book_of r) k no_entry) ≡ false
+  unfolding is
+  is_not k l h = ne_eqb (get_or (book_of r) k no_entry).number n (λ e. h (sym (said k l) ∙ e))
+
+  by_place : (i : ℕ) → position_or_len is (book_of r) ≡ i → cond (ltb i m) (Some i) None ≡ found n (book_of r)
+  unfolding is
+  by_place i e = rw (all, ← e)
+
+  pub found_is : (f : Option ℕ) → MatchOption f ((k : ℕ) → 0 ≤ k → k < m → word r (entry_at k) ≡ n → ⊥)
+      (λ i. (0 ≤ i) × (i < m) × (word r (entry_at i) ≡ n) × ((k : ℕ) → 0 ≤ k → k < i → word r (entry_at k) ≡ n → ⊥))
+      → f ≡ found n (book_of r)
+  unfolding is
+  found_is None h =
+      (rw (le-ltb m m (omega arith)))
+      ∙ by_place m (position_or_len_is is (book_of r) m no_entry (omega arith) (λ k l. is_not k l (h k (omega arith) l)) (λ l. absurd (omega arith)))
+  found_is (Some i) (_, l, e, h) =
+      (rw (lt-ltb i m l))
+      ∙ by_place i (position_or_len_is is (book_of r) i no_entry (omega arith) (λ k q. is_not k (omega arith) (h k (omega arith) q)) (λ _. eq-eqb _ n (said i l ∙ e)))
+
+-- it is an entry of the book, with that number
+pub found_place : (n : ℕ) (b : Book) (k : ℕ) → found n b ≡ Some k → (k < length b) × ((get_or b k no_entry).number ≡ n)
+found_place n b k e = let (l, t, _) = position-Some (λ (e : Running). eqb e.number n) b k no_entry e in (l, omega tests)
+
+-- and there is one just where that number runs
+pub found_runs : (n : ℕ) (b : Book) → is_some (found n b) ≡ runs_in b n
+unfolding runs_in any_in
+found_runs n [] = refl
+found_runs n (e ∷ b) = go (true_or_false (eqb e.number n)) (lt_or_ge p (length b)) (found_runs n b)
+  where
+    p : ℕ
+    p = position_or_len (λ (e : Running). eqb e.number n) b
+
+    go : (eqb e.number n ≡ true) ⊎ (eqb e.number n ≡ false) → (p < length b) ⊎ (length b ≤ p) → is_some (found n b) ≡ runs_in b n → is_some (found n (e ∷ b)) ≡ runs_in (e ∷ b) n
+    go (inl t) l h = rw (t, lt-ltb 0 (length (e ∷ b)) (omega arith))
+    go (inr f) (inl l) h = rw (f, lt-ltb (1 + p) (length (e ∷ b)) (omega arith)) (rw (lt-ltb p (length b) l) at h)
+    go (inr f) (inr l) h = rw (f, le-ltb (1 + p) (length (e ∷ b)) (omega arith)) (rw (le-ltb p (length b) l) at h)
 
 -- ---- the place of a number
 

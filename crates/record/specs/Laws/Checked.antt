@@ -1,0 +1,30 @@
+-- MODEL 9.1: what a sound record says of its columns, for the methods of `SoundRecord`. Assumes nothing.
+use Rattle.std.specs.Prelude.{ℕ, ◌+◌, ◌≤◌, ◌<◌, ◌≡◌, true, List, length, get_or}
+use Rattle.std.proofs.Common.{sym, arith}
+use Rattle.model.specs.Limits.{max_columns, max_running, max_kind, kinds_at}
+use Rattle.model.specs.Columns.{columns, kind}
+use Rattle.model.specs.Record.{device_of, book_of}
+use Rattle.model.specs.Sound.{sound, count_of}
+use Rattle.model.proofs.Laws.Limits.{limits_to, kind_le}
+use Rattle.model.proofs.Laws.Sound.{columns_said, kind_read, sound_within}
+use Rattle.column.specs.Part.{Part}
+use Rattle.column.specs.Laws.Lent.{lent, lent_is}
+use Rattle.record.specs.Laws.Fits.{sound_listed}
+
+module _ (r : List ℕ) (s : sound r ≡ true) where
+  pub columns_few : columns (device_of r) ≤ max_columns
+  columns_few = (limits_to (device_of r) (book_of r) (sound_within r s)).columns
+
+  pub running_few : length (book_of r) ≤ max_running
+  running_few = (limits_to (device_of r) (book_of r) (sound_within r s)).few
+
+  -- the kind byte of a column
+  pub kind_byte : (c : ℕ) → c < columns (device_of r) → get_or r (kinds_at + c) 0 ≡ kind (device_of r) c
+  kind_byte c l = sym (kind_read r c (omega (arith, columns_said r)))
+
+  pub kind_small : (c : ℕ) → c < columns (device_of r) → get_or r (kinds_at + c) 0 ≤ max_kind
+  kind_small c l = rw (kind_byte c l) (kind_le (device_of r) (book_of r) (limits_to (device_of r) (book_of r) (sound_within r s)) c)
+
+  -- column c's part has room for as many intervals as its count says
+  pub column_lent : (c : ℕ) → c < max_columns → Part (lent r c) (count_of r c)
+  column_lent c l = let x = sound_listed r c s l in lent_is r c x.size x.column x.few
