@@ -4,4 +4,5 @@ pub mod Lent
 pub mod Reading
 pub mod Writing
 pub mod Holding
+pub mod Held
 pub mod Reaching

@@ -1,6 +1,6 @@
 -- MODEL 8.3, 12.4 and 12.5: a column's part of the record, the intervals that it lists, what `cut` and `join` make of it, and the interval that holds
 -- a block. Assumes nothing.
-use Rattle.std.specs.Prelude.{ℕ, zero, suc, ◌+◌, ◌*◌, ◌≤◌, ◌<◌, min, max, ◌≡◌, cond, ◌&&◌, List, [], ◌∷◌, ◌++◌, leb, ltb, length}
+use Rattle.std.specs.Prelude.{ℕ, zero, suc, ◌+◌, ◌*◌, ◌≤◌, ◌<◌, min, max, ◌≡◌, cond, ◌&&◌, List, [], ◌∷◌, ◌++◌, leb, ltb, length, Option, Some, None}
 use Rattle.runs.specs.Intervals.{Interval, interval, Apart, unite}
 use Rattle.model.specs.Limits.{max_intervals, column_size, interval_size, words}
 use Rattle.model.specs.Tasks.{word}
@@ -93,6 +93,11 @@ pub record Absorbed (o : List ℕ) (s : Joining) (x : Read) (q : List ℕ) (r : 
 unfoldable pub holding : ℕ → ℕ → List Interval → Held
 holding b t [] = Nowhere
 holding b t (i ∷ L) = let later = holding b t L in cond (leb i.bottom b && leb t i.top) (In (record { bottom = i.bottom; top = i.top })) later
+
+-- MODEL 11.1: the interval of a list in which all half rows from b up to t lie, the first if there are several
+unfoldable pub held_in : ℕ → ℕ → List Interval → Option Read
+held_in b t [] = None
+held_in b t (i ∷ L) = let later = held_in b t L in cond (leb i.bottom b && leb t i.top) (Some (record { bottom = i.bottom; top = i.top })) later
 
 -- the number of the first interval of a list, from number `from` on, that ends at t or above it; the length of the list if there is none
 unfoldable pub first_reaching : ℕ → ℕ → List Interval → ℕ

@@ -2,11 +2,11 @@
 // The part is read from its front, and what it becomes is written into a part of zeros that is copied back.
 #![tactic(auto)]
 
-ghost use Rattle.std.specs.Prelude.{◌≡◌, [], ◌∷◌, ◌<◌, length};
+ghost use Rattle.std.specs.Prelude.{◌≡◌, [], ◌∷◌, ◌<◌, ◌≤◌, ◌↔◌, IsTrue, length};
 ghost use Rattle.runs.specs.Intervals.{interval, piece, subtract, unite};
 ghost use Rattle.model.specs.Limits.{max_intervals, column_size, words};
 ghost use Rattle.model.specs.Record.{column_part};
-ghost use Rattle.column.specs.Part.{Part, ReadAt, listed_in, Room, Joinable, Wrote, Absorbed, Changed, holding, first_reaching};
+ghost use Rattle.column.specs.Part.{Part, ReadAt, listed_in, Room, Joinable, Wrote, Absorbed, Changed, holding, held_in, first_reaching};
 
 use model::{COLUMN_SIZE, INTERVAL_SIZE, INTERVAL_TOP_AT};
 use runs::{higher, lower};
@@ -25,6 +25,50 @@ pub struct Column<'a> {
     pub part: &'a [u8],
     pub count: usize,
     ghost listed: { Part part.now count },
+}
+
+impl Interval {
+    // Whether all half rows of a run lie in it. The top first: of the intervals below the run it alone is looked at.
+    fn holds(self, run: Interval) -> bool
+        ensures { IsTrue result ↔ ((self.bottom ≤ run.bottom) × (run.top ≤ self.top)) }
+    {
+        run.top <= self.top && self.bottom <= run.bottom
+    }
+}
+
+impl Column<'_> {
+    // MODEL 8.3: interval i of the part.
+    pub fn interval(self, i: usize) -> Interval
+        requires { i < max_intervals }
+        ensures { ReadAt self.entry.part.now i result }
+    {
+        read(self.part, i)
+    }
+
+    // MODEL 6.5 and 11.1: the interval in which all half rows of a run lie.
+    pub fn holder(self, run: Interval) -> Option<Interval>
+        ensures { result ≡ held_in run.bottom run.top (listed_in self.entry.part.now self.entry.count) }
+    {
+        for i in 0..self.count {
+            let next = self.interval(i);
+            if next.holds(run) {
+                return Some(next);
+            }
+        }
+        None
+    }
+
+    // MODEL 11.1: the number of the first interval, from number `from` on, that ends at `top` or above it; `count` if there is none. Only tops are read.
+    pub fn reaching(self, from: usize, top: u32) -> usize
+        ensures { result ≡ first_reaching from top (listed_in self.entry.part.now self.entry.count) }
+    {
+        for i in from..self.count {
+            if get16(self.part, INTERVAL_SIZE * i + INTERVAL_TOP_AT) >= top {
+                return i;
+            }
+        }
+        self.count
+    }
 }
 
 // The interval in which all that was asked for lies.
@@ -189,4 +233,20 @@ pub fn reaching(part: &[u8], count: usize, from: usize, top: u32) -> usize
         i += 1;
     }
     count
+}
+
+// MODEL 12.4: cuts a run out of the intervals of a part. The answer is how many are left.
+pub fn cut_run(part: &mut [u8], count: usize, run: Interval) -> usize
+    requires { Room (subtract run.bottom run.top) part.old count }
+    ensures { Changed (subtract run.bottom run.top) part.old count part.new result }
+{
+    cut(part, count, run.bottom, run.top)
+}
+
+// MODEL 12.5: joins a run to the intervals of a part, below and above at once. The answer is how many there are then.
+pub fn join_run(part: &mut [u8], count: usize, run: Interval) -> usize
+    requires { Joinable run.bottom run.top part.old count }
+    ensures { Changed (unite run.bottom run.top) part.old count part.new result }
+{
+    join(part, count, run.bottom, run.top)
 }
