@@ -1,5 +1,4 @@
 -- What the contracts of this crate cite beside the model. What is proved of it stands under Laws.
-pub mod Checked
 pub mod Clear
 pub mod Columns
 pub mod Entries

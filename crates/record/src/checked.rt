@@ -1,12 +1,11 @@
 // MODEL 9.1: bytes that are a sound record, as a type. Who has one need not check it again.
-ghost use Rattle.std.specs.Prelude.{◌≡◌, true, ◌≤◌, ◌<◌, IfOk, IfErr};
-ghost use Rattle.model.specs.Limits.{max_columns};
+ghost use Rattle.std.specs.Prelude.{◌≡◌, ◌≢◌, true, false, ◌≤◌, ◌<◌, ◌↔◌, length, IfOk, IsErrOf};
+ghost use Rattle.model.specs.Limits.{max_columns, record_size};
 ghost use Rattle.model.specs.Columns.{columns, kind};
 ghost use Rattle.model.specs.Kinds.{number_of};
 ghost use Rattle.model.specs.Record.{device_of};
 ghost use Rattle.model.specs.Sound.{sound, count_of};
 ghost use Rattle.column.specs.Laws.Lent.{lent};
-ghost use Rattle.record.specs.Checked.{FaultOf};
 
 use crate::sound::sound;
 use column::Column;
@@ -22,7 +21,7 @@ pub struct SoundRecord<'a> {
     ghost sound: { sound bytes.now ≡ true },
 }
 
-// Why bytes are no sound record.
+// Why bytes are no sound record: their length is none of a record's, or they are not sound.
 #[derive(Clone, Copy, Debug, PartialEq, Eq)]
 pub enum RecordFault {
     Length,
@@ -30,9 +29,11 @@ pub enum RecordFault {
 }
 
 impl<'a> SoundRecord<'a> {
+    // MODEL 9.1: the bytes as a sound record, where they are one.
     pub fn read(bytes: &'a [u8]) -> Result<SoundRecord<'a>, RecordFault>
-        ensures bytes { IfOk result (λ r. r.bytes.now ≡ bytes.now) }
-        ensures fault { IfErr result (FaultOf bytes.now) }
+        ensures ok { IfOk result (λ r. r.bytes.now ≡ bytes.now) }
+        ensures length { IsErrOf result RecordFault.Length ↔ (length bytes.now ≢ record_size) }
+        ensures not_sound { IsErrOf result RecordFault.NotSound ↔ ((length bytes.now ≡ record_size) × (sound bytes.now ≡ false)) }
     {
         if bytes.len() != RECORD_SIZE {
             return Err(RecordFault::Length);

@@ -16,7 +16,7 @@ use task::well_formed;
 use words::{equal, get16, wide};
 
 // MODEL 9.4: whether the number of running entry j is above that of the entry before it, and the first is 1 or more.
-fn rises(record: &[u8], j: usize) -> bool
+pub fn rises(record: &[u8], j: usize) -> bool
     requires { HasEntry «record».now j }
     ensures { result ≡ ltb (prior 0 (book_of «record».now) j) (entry_of «record».now j).number }
 {

@@ -47,21 +47,21 @@ module _ (r : List ℕ) (j n : ℕ) (x : HasEntry r j) (e : n ≡ word r (entry_
       (ap (λ (i : ℕ). ltb (prior 0 (book_of r) i) (entry_of r j).number) k)
 
 -- whole blocks, 1 to 32 of them
-sized_of : (t : List ℕ) (n : ℕ) → length t ≡ block_size * n → 1 ≤ n → n ≤ max_blocks → sized t ≡ true
+pub sized_of : (t : List ℕ) (n : ℕ) → length t ≡ block_size * n → 1 ≤ n → n ≤ max_blocks → sized t ≡ true
 unfolding sized
 sized_of t n e one most =
     rw (ne_eqb (length t) 0 (λ z. omega arith), le-leb (length t) (block_size * max_blocks) (omega arith)) (eq-eqb (length t % block_size) 0 (omega arith))
 
-blocks_sized : (r : List ℕ) (j : ℕ) → HasEntry r j → 1 ≤ block_count r j → block_count r j ≤ max_blocks → sized (blocks_of r j) ≡ true
+pub blocks_sized : (r : List ℕ) (j : ℕ) → HasEntry r j → 1 ≤ block_count r j → block_count r j ≤ max_blocks → sized (blocks_of r j) ≡ true
 blocks_sized r j x one most = sized_of (blocks_of r j) (block_count r j) (blocks_length r j x most) one most
 
 -- ---- in a sound record entry j passes the tests
 
 module _ (r : List ℕ) (j : ℕ) (x : HasEntry r j) (s : sound r ≡ true) where
-  count_sound : (1 ≤ block_count r j) × (block_count r j ≤ max_blocks)
+  pub count_sound : (1 ≤ block_count r j) × (block_count r j ≤ max_blocks)
   count_sound = let y = clauses_to r s in (y.some_blocks j x.runs, y.few_blocks j x.runs)
 
-  in_limits : Entry (device_of r) (entry_of r j)
+  pub in_limits : Entry (device_of r) (entry_of r j)
   in_limits = (limits_to (device_of r) (book_of r) (sound_within r s)).entries (entry_of r j) (get_d_in (book_of r) j no_entry (in_book r j x))
 
   sound_passes : Passes r j
@@ -71,10 +71,10 @@ module _ (r : List ℕ) (j : ℕ) (x : HasEntry r j) (s : sound r ≡ true) wher
     few_blocks = count_sound.1;
   }
 
-  sound_formed : well_formed (blocks_of r j) ≡ true
+  pub sound_formed : well_formed (blocks_of r j) ≡ true
   sound_formed = rw (entry_by_bytes r j x count_sound.1) at in_limits.well_formed
 
-  sound_fits : fits (device_of r) (take j (book_of r)) (blocks_of r j) (get_or r (entry_at j + 2) 0) (word r (entry_at j + 4)) ≡ true
+  pub sound_fits : fits (device_of r) (take j (book_of r)) (blocks_of r j) (get_or r (entry_at j + 2) 0) (word r (entry_at j + 4)) ≡ true
   sound_fits = rw (entry_by_bytes r j x count_sound.1) at (fits_among (device_of r) (book_of r) j (in_book r j x) (sound_within r s))
 
 -- so where a test fails, the record is not sound
