@@ -1,2 +1,3 @@
--- What is proved of slices that are tested for zeros.
+-- What is proved of slices that are compared, and tested for zeros.
+pub mod Same
 pub mod Zeros

@@ -1,2 +1,0 @@
--- What the proofs of `words` share.
-pub mod Laws
