@@ -6,7 +6,6 @@ use Rattle.model.specs.Limits.{max_intervals, column_size, interval_size, words}
 use Rattle.model.specs.Tasks.{word}
 use Rattle.model.specs.Record.{column_part}
 use Rattle.column.specs.declared.Interval.{Interval as Read}
-use Rattle.column.specs.declared.Joining.{Joining}
 use Rattle.column.specs.declared.Held.{Held}
 use Rattle.column.specs.declared.Held.TheVariants.{In, Nowhere}
 
@@ -56,6 +55,11 @@ pub record Joinable (b t : ℕ) (p : List ℕ) (n : ℕ) : Type 0 where
 
 -- ---- writing
 
+-- the bounds of an interval are two-byte numbers
+pub record Short (x : Read) : Type 0 where
+  pub bottom : x.bottom < words
+  pub top : x.top < words
+
 -- the part o holds the n intervals K
 pub record Holding (o : List ℕ) (n : ℕ) (K : List Interval) : Type 0 where
   pub bytes_are : o ≡ column_part K
@@ -80,12 +84,11 @@ unfoldable pub merged : ℕ → ℕ → List Interval → List Interval
 merged b t [] = interval b t ∷ []
 merged b t (i ∷ L) = sent b t i ++ merged (carried b t i).bottom (carried b t i).top L
 
--- one step of a join
-pub record Absorbed (o : List ℕ) (s : Joining) (x : Read) (q : List ℕ) (r : Joining) : Type 0 where
-  pub wrote : Wrote o s.count (sent s.bottom s.top (interval x.bottom x.top)) q r.count
-  pub carries : interval r.bottom r.top ≡ carried s.bottom s.top (interval x.bottom x.top)
-  pub bottom_small : r.bottom < words
-  pub top_small : r.top < words
+-- one step of a join: c is carried on, and x is the next interval
+pub record Absorbed (o : List ℕ) (n : ℕ) (c x : Read) (q : List ℕ) (m : ℕ) (r : Read) : Type 0 where
+  pub wrote : Wrote o n (sent c.bottom c.top (interval x.bottom x.top)) q m
+  pub carries : interval r.bottom r.top ≡ carried c.bottom c.top (interval x.bottom x.top)
+  pub short : Short r
 
 -- ---- the search
 

@@ -5,12 +5,10 @@
 ghost use Rattle.std.specs.Prelude.{◌≡◌, [], ◌∷◌, ◌<◌, ◌≤◌, ◌↔◌, IsTrue, length};
 ghost use Rattle.runs.specs.Intervals.{interval, piece, subtract, unite};
 ghost use Rattle.model.specs.Limits.{max_intervals, column_size, words};
-ghost use Rattle.model.specs.Record.{column_part};
-ghost use Rattle.column.specs.Part.{Part, ReadAt, listed_in, Room, Joinable, Wrote, Absorbed, Changed, holding, held_in, first_reaching};
+ghost use Rattle.column.specs.Part.{Part, ReadAt, listed_in, Room, Joinable, Short, Holding, Wrote, Absorbed, Changed, holding, held_in, first_reaching};
 
 use model::{COLUMN_SIZE, INTERVAL_SIZE, INTERVAL_TOP_AT};
-use runs::{higher, lower};
-use words::{copy, get16, put16};
+use words::{get16, put16};
 
 // MODEL 7.2: the half rows from bottom up to top, top excluded.
 #[derive(Clone, Copy)]
@@ -42,7 +40,11 @@ impl Column<'_> {
         requires { i < max_intervals }
         ensures { ReadAt self.entry.part.now i result }
     {
-        read(self.part, i)
+        let at = INTERVAL_SIZE * i;
+        Interval {
+            bottom: get16(self.part, at),
+            top: get16(self.part, at + INTERVAL_TOP_AT),
+        }
     }
 
     // MODEL 6.5 and 11.1: the interval in which all half rows of a run lie.
@@ -78,12 +80,105 @@ pub enum Held {
     Nowhere,
 }
 
-// How far a join has come: the intervals written, and the one that is carried on.
+// A part that is written from its front, and how many intervals stand there.
 #[derive(Drop)]
-struct Joining {
+struct Draft {
+    bytes: [u8; COLUMN_SIZE],
     count: usize,
-    bottom: u32,
-    top: u32,
+}
+
+impl Draft {
+    // The part of no intervals: zeros.
+    fn new() -> Draft
+        ensures { Holding result.bytes result.count [] }
+    {
+        Draft {
+            bytes: [0; COLUMN_SIZE],
+            count: 0,
+        }
+    }
+
+    // Writes an interval behind those that are there.
+    fn push(&mut self, next: Interval)
+        requires room { self.old.count < max_intervals }
+        requires short { Short next }
+        ensures { Wrote self.old.bytes self.old.count (interval next.bottom next.top ∷ []) self.new.bytes self.new.count }
+    {
+        let at = INTERVAL_SIZE * self.count;
+        put16(&mut self.bytes, at, next.bottom);
+        put16(&mut self.bytes, at + INTERVAL_TOP_AT, next.top);
+        self.count += 1;
+    }
+
+    // The same, unless the interval is empty.
+    fn keep(&mut self, next: Interval)
+        requires room { next.bottom < next.top → self.old.count < max_intervals }
+        requires short { next.top < words }
+        ensures { Wrote self.old.bytes self.old.count (piece next.bottom next.top []) self.new.bytes self.new.count }
+    {
+        if next.bottom < next.top {
+            self.push(next);
+        }
+    }
+
+    // Takes one more interval into a join: writes it if it lies below the one carried on, or that one if it lies below it; else the two become one.
+    fn absorb(&mut self, carried: Interval, next: Interval) -> Interval
+        requires room { self.old.count < max_intervals }
+        requires carried_short { Short carried }
+        requires next_short { Short next }
+        ensures { Absorbed self.old.bytes self.old.count carried next self.new.bytes self.new.count result }
+    {
+        if next.top < carried.bottom {
+            self.push(next);
+            return carried;
+        }
+        if carried.top < next.bottom {
+            self.push(carried);
+            return next;
+        }
+        Interval {
+            bottom: carried.bottom.min(next.bottom),
+            top: carried.top.max(next.top),
+        }
+    }
+}
+
+// MODEL 12.4: cuts a run out of the intervals of a part. The answer is how many are left.
+pub fn cut_run(part: &mut [u8], count: usize, run: Interval) -> usize
+    requires { Room (subtract run.bottom run.top) part.old count }
+    ensures { Changed (subtract run.bottom run.top) part.old count part.new result }
+{
+    let column = Column { part, count };
+    let mut left = Draft::new();
+    for i in 0..count {
+        let next = column.interval(i);
+        left.keep(Interval {
+            top: next.top.min(run.bottom),
+            ..next
+        });
+        left.keep(Interval {
+            bottom: next.bottom.max(run.top),
+            ..next
+        });
+    }
+    part.copy_from_slice(&left.bytes);
+    left.count
+}
+
+// MODEL 12.5: joins a run to the intervals of a part, below and above at once. The answer is how many there are then.
+pub fn join_run(part: &mut [u8], count: usize, run: Interval) -> usize
+    requires { Joinable run.bottom run.top part.old count }
+    ensures { Changed (unite run.bottom run.top) part.old count part.new result }
+{
+    let column = Column { part, count };
+    let mut joined = Draft::new();
+    let mut carried = run;
+    for i in 0..count {
+        carried = joined.absorb(carried, column.interval(i));
+    }
+    joined.push(carried);
+    part.copy_from_slice(&joined.bytes);
+    joined.count
 }
 
 // MODEL 8.3: interval i of a part.
@@ -91,49 +186,8 @@ pub fn read(part: &[u8], i: usize) -> Interval
     requires { (length part.now ≡ column_size) × (i < max_intervals) }
     ensures { ReadAt part.now i result }
 {
-    let at = INTERVAL_SIZE * i;
-    Interval {
-        bottom: get16(part, at),
-        top: get16(part, at + INTERVAL_TOP_AT),
-    }
-}
-
-// Writes an interval behind the n that are there.
-fn push(out: &mut [u8], n: usize, bottom: u32, top: u32) -> usize
-    requires { (length out.old ≡ column_size) × (n < max_intervals) × (bottom < words) × (top < words) }
-    ensures { Wrote out.old n (interval bottom top ∷ []) out.new result }
-{
-    let at = INTERVAL_SIZE * n;
-    put16(out, at, bottom);
-    put16(out, at + INTERVAL_TOP_AT, top);
-    n + 1
-}
-
-// The same, unless the interval is empty.
-fn keep(out: &mut [u8], n: usize, bottom: u32, top: u32) -> usize
-    requires { (length out.old ≡ column_size) × (top < words) × (bottom < top → n < max_intervals) }
-    ensures { Wrote out.old n (piece bottom top []) out.new result }
-{
-    if bottom < top {
-        return push(out, n, bottom, top);
-    }
-    n
-}
-
-// Writes what is left of each interval of `part` without bottom..top.
-fn cut_into(out: &mut [u8], part: &[u8], count: usize, bottom: u32, top: u32) -> usize
-    requires { (out.old ≡ column_part []) × Room (subtract bottom top) part.now count }
-    ensures { Changed (subtract bottom top) part.now count out.new result }
-{
-    let mut n: usize = 0;
-    let mut i: usize = 0;
-    while i < count {
-        let next = read(part, i);
-        n = keep(out, n, next.bottom, lower(next.top, bottom));
-        n = keep(out, n, higher(next.bottom, top), next.top);
-        i += 1;
-    }
-    n
+    let column = Column { part, count: 0 };
+    column.interval(i)
 }
 
 // MODEL 12.4: cuts bottom..top out of the intervals of a part. The answer is how many are left.
@@ -141,55 +195,7 @@ pub fn cut(part: &mut [u8], count: usize, bottom: u32, top: u32) -> usize
     requires { Room (subtract bottom top) part.old count }
     ensures { Changed (subtract bottom top) part.old count part.new result }
 {
-    let mut scratch = [0u8; COLUMN_SIZE];
-    let n = cut_into(&mut scratch, part, count, bottom, top);
-    copy(part, &scratch);
-    n
-}
-
-// Takes one more interval into a join: writes it if it lies below the one carried, or that one if it lies below it; else the two become one.
-fn absorb(out: &mut [u8], state: Joining, next: Interval) -> Joining
-    requires { (length out.old ≡ column_size) × (state.count < max_intervals) × (state.bottom < words) × (state.top < words) × (next.bottom < words) × (next.top < words) }
-    ensures { Absorbed out.old state next out.new result }
-{
-    if next.top < state.bottom {
-        return Joining {
-            count: push(out, state.count, next.bottom, next.top),
-            bottom: state.bottom,
-            top: state.top,
-        };
-    }
-    if state.top < next.bottom {
-        return Joining {
-            count: push(out, state.count, state.bottom, state.top),
-            bottom: next.bottom,
-            top: next.top,
-        };
-    }
-    Joining {
-        count: state.count,
-        bottom: lower(state.bottom, next.bottom),
-        top: higher(state.top, next.top),
-    }
-}
-
-// Writes the intervals of `part` with bottom..top among them, as one with those that it meets or touches.
-fn join_into(out: &mut [u8], part: &[u8], count: usize, bottom: u32, top: u32) -> usize
-    requires { (out.old ≡ column_part []) × Joinable bottom top part.now count }
-    ensures { Changed (unite bottom top) part.now count out.new result }
-{
-    let mut state = Joining {
-        count: 0,
-        bottom: bottom,
-        top: top,
-    };
-    let mut i: usize = 0;
-    while i < count {
-        let next = read(part, i);
-        state = absorb(out, state, next);
-        i += 1;
-    }
-    push(out, state.count, state.bottom, state.top)
+    cut_run(part, count, Interval { bottom, top })
 }
 
 // MODEL 12.5: joins bottom..top to the intervals of a part, below and above at once. The answer is how many there are then.
@@ -197,10 +203,7 @@ pub fn join(part: &mut [u8], count: usize, bottom: u32, top: u32) -> usize
     requires { Joinable bottom top part.old count }
     ensures { Changed (unite bottom top) part.old count part.new result }
 {
-    let mut scratch = [0u8; COLUMN_SIZE];
-    let n = join_into(&mut scratch, part, count, bottom, top);
-    copy(part, &scratch);
-    n
+    join_run(part, count, Interval { bottom, top })
 }
 
 // MODEL 6.5 and 11.1: the interval of a part in which all half rows from bottom up to top lie.
@@ -225,28 +228,6 @@ pub fn reaching(part: &[u8], count: usize, from: usize, top: u32) -> usize
     requires { Part part.now count }
     ensures { result ≡ first_reaching from top (listed_in part.now count) }
 {
-    let mut i = from;
-    while i < count {
-        if get16(part, INTERVAL_SIZE * i + INTERVAL_TOP_AT) >= top {
-            return i;
-        }
-        i += 1;
-    }
-    count
-}
-
-// MODEL 12.4: cuts a run out of the intervals of a part. The answer is how many are left.
-pub fn cut_run(part: &mut [u8], count: usize, run: Interval) -> usize
-    requires { Room (subtract run.bottom run.top) part.old count }
-    ensures { Changed (subtract run.bottom run.top) part.old count part.new result }
-{
-    cut(part, count, run.bottom, run.top)
-}
-
-// MODEL 12.5: joins a run to the intervals of a part, below and above at once. The answer is how many there are then.
-pub fn join_run(part: &mut [u8], count: usize, run: Interval) -> usize
-    requires { Joinable run.bottom run.top part.old count }
-    ensures { Changed (unite run.bottom run.top) part.old count part.new result }
-{
-    join(part, count, run.bottom, run.top)
+    let column = Column { part, count };
+    column.reaching(from, top)
 }

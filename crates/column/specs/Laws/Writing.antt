@@ -5,7 +5,7 @@ use Rattle.std.proofs.Math.Decide.{dec_lt}
 use borrow.Author.Tests.{lt-ltb, le-ltb}
 use Rattle.runs.specs.Intervals.{Interval, interval, Apart, piece, subtract, unite}
 use Rattle.runs.specs.Laws.Streaming.{piece_some, piece_none, piece_append, unite_before}
-use Rattle.model.specs.Limits.{max_intervals, column_size, interval_size, words}
+use Rattle.model.specs.Limits.{max_intervals, column_size, interval_size}
 use Rattle.model.specs.Record.{bytes16, interval_bytes, column_part}
 use Rattle.model.specs.Parts.{splice}
 use Rattle.model.proofs.Laws.Parts.{splice_more}
@@ -13,8 +13,7 @@ use Rattle.model.proofs.Laws.Record.{length_column}
 use Rattle.model.proofs.Laws.Slots.{slots_nil}
 use Rattle.model.proofs.Laws.ColumnPart.{column_push}
 use Rattle.column.specs.declared.Interval.{Interval as Read}
-use Rattle.column.specs.declared.Joining.{Joining}
-use Rattle.column.specs.Part.{listed_from, listed_in, ReadAt, Holding, Wrote, Changed, Joinable, sent, carried, merged, Absorbed}
+use Rattle.column.specs.Part.{listed_from, listed_in, ReadAt, Holding, Wrote, Changed, Joinable, Short, sent, carried, merged, Absorbed}
 use Rattle.column.specs.Laws.Reading.{listed_all, listed_end, listed_next}
 
 -- ---- what `push` and `keep` write
@@ -46,8 +45,8 @@ pub record Writing (G : List Interval) (o : List ℕ) (n : ℕ) (rest : List Int
   pub holds : Holding o n written
   pub whole : G ≡ written ++ rest
 
-pub start : {G : List Interval} {o : List ℕ} → o ≡ column_part [] → Writing G o 0 G
-start e = record { written = []; holds = record { bytes_are = e; count_is = refl }; whole = refl }
+pub start : {G : List Interval} {o : List ℕ} {n : ℕ} → Holding o n [] → Writing G o n G
+start h = record { written = []; holds = h; whole = refl }
 
 pub on : {G E R : List Interval} {o q : List ℕ} {n r : ℕ} → Writing G o n (E ++ R) → Wrote o n E q r → Writing G q r R
 on {E = E} {R = R} w e =
@@ -87,8 +86,8 @@ cut_next {p = p} {i = i} {n = n} {x = x} b t {lo} {hi} w q r e f =
     rw (listed_next q r, ← e, ← f) (sym (rw (piece_append lo x.top [] R) (piece_append x.bottom hi [] (piece lo x.top R)))) in
     rw two at w
 
-pub cut_start : {o : List ℕ} (b t : ℕ) (p : List ℕ) (n : ℕ) → o ≡ column_part [] → Writing (subtract b t (listed_in p n)) o 0 (subtract b t (listed_from p 0 (n - 0)))
-cut_start b t p n e = rw (← listed_all p n) (start e)
+pub cut_start : {o : List ℕ} {c : ℕ} (b t : ℕ) (p : List ℕ) (n : ℕ) → Holding o c [] → Writing (subtract b t (listed_in p n)) o c (subtract b t (listed_from p 0 (n - 0)))
+cut_start b t p n h = rw (← listed_all p n) (start h)
 
 pub cut_end : {o : List ℕ} {i n r : ℕ} (b t : ℕ) (p : List ℕ) → n ≤ i → Writing (subtract b t (listed_in p n)) o r (subtract b t (listed_from p i (n - i)))
     → Changed (subtract b t) p n o r
@@ -126,12 +125,12 @@ unfolding merged
 merged_some b t [] = omega arith
 merged_some b t (i ∷ L) = rw length-append (omega (arith, merged_some (carried b t i).bottom (carried b t i).top L))
 
-pub join_start : {o : List ℕ} {b t : ℕ} {p : List ℕ} {n : ℕ} → Joinable b t p n → o ≡ column_part [] → Writing (unite b t (listed_in p n)) o 0 (merged b t (listed_from p 0 (n - 0)))
-join_start {b = b} {t = t} {p = p} {n = n} j e = rw (← listed_all p n, merged_unite b t 0 (listed_in p n) j.canon) (start e)
+pub join_start : {o : List ℕ} {b t c : ℕ} {p : List ℕ} {n : ℕ} → Joinable b t p n → Holding o c [] → Writing (unite b t (listed_in p n)) o c (merged b t (listed_from p 0 (n - 0)))
+join_start {b = b} {t = t} {p = p} {n = n} j h = rw (← listed_all p n, merged_unite b t 0 (listed_in p n) j.canon) (start h)
 
-pub join_next : {G : List Interval} {p o o' : List ℕ} {i n : ℕ} {x : Read} {s s' : Joining} → i < n → ReadAt p i x
-    → Writing G o s.count (merged s.bottom s.top (listed_from p i (n - i))) → Absorbed o s x o' s'
-    → Writing G o' s'.count (merged s'.bottom s'.top (listed_from p (i + 1) (n - (i + 1))))
+pub join_next : {G : List Interval} {p o o' : List ℕ} {i n m m' : ℕ} {x c c' : Read} → i < n → ReadAt p i x
+    → Writing G o m (merged c.bottom c.top (listed_from p i (n - i))) → Absorbed o m c x o' m' c'
+    → Writing G o' m' (merged c'.bottom c'.top (listed_from p (i + 1) (n - (i + 1))))
 unfolding merged
 join_next {p = p} {i = i} {n = n} q r w a =
     let L = listed_from p (i + 1) (n - (i + 1)) in
@@ -145,28 +144,21 @@ pub join_end : {f : List Interval → List Interval} {o q : List ℕ} {i n c r :
 unfolding merged
 join_end b t p h w e = changed (all_done (on (rw (listed_end p h) at w) e))
 
-module _ {o q : List ℕ} {r : ℕ} (s : Joining) (x : Read) where
-  pub absorbed_below : x.top < s.bottom → Wrote o s.count (interval x.bottom x.top ∷ []) q r → s.bottom < words → s.top < words
-      → Absorbed o s x q (record { count = r; bottom = s.bottom; top = s.top })
+module _ {o q : List ℕ} {n m : ℕ} (c x : Read) where
+  pub absorbed_below : x.top < c.bottom → Wrote o n (interval x.bottom x.top ∷ []) q m → Short c → Absorbed o n c x q m c
   unfolding sent carried
-  absorbed_below h w b t = record { wrote = rw (lt-ltb x.top s.bottom h) w; carries = rw (lt-ltb x.top s.bottom h); bottom_small = b; top_small = t }
+  absorbed_below h w s = record { wrote = rw (lt-ltb x.top c.bottom h) w; carries = rw (lt-ltb x.top c.bottom h); short = s }
 
-  pub absorbed_above : s.bottom ≤ x.top → s.top < x.bottom → Wrote o s.count (interval s.bottom s.top ∷ []) q r → x.bottom < words → x.top < words
-      → Absorbed o s x q (record { count = r; bottom = x.bottom; top = x.top })
+  pub absorbed_above : c.bottom ≤ x.top → c.top < x.bottom → Wrote o n (interval c.bottom c.top ∷ []) q m → Short x → Absorbed o n c x q m x
   unfolding sent carried
-  absorbed_above g h w b t = record {
-    wrote = rw (le-ltb x.top s.bottom g, lt-ltb s.top x.bottom h) w;
-    carries = rw (le-ltb x.top s.bottom g, lt-ltb s.top x.bottom h);
-    bottom_small = b;
-    top_small = t;
-  }
+  absorbed_above g h w s =
+      record { wrote = rw (le-ltb x.top c.bottom g, lt-ltb c.top x.bottom h) w; carries = rw (le-ltb x.top c.bottom g, lt-ltb c.top x.bottom h); short = s }
 
-pub absorbed_met : {o : List ℕ} {b t : ℕ} (s : Joining) (x : Read) → s.bottom ≤ x.top → x.bottom ≤ s.top → b ≡ min s.bottom x.bottom → t ≡ max s.top x.top
-    → (s.bottom < words) × (s.top < words) × (x.top < words) → Absorbed o s x o (record { count = s.count; bottom = b; top = t })
+pub absorbed_met : {o : List ℕ} {n : ℕ} (c x r : Read) → c.bottom ≤ x.top → x.bottom ≤ c.top → r.bottom ≡ min c.bottom x.bottom → r.top ≡ max c.top x.top
+    → Short c → Short x → Absorbed o n c x o n r
 unfolding sent carried
-absorbed_met s x g h e f (l, m, n) = record {
-  wrote = rw (le-ltb x.top s.bottom g, le-ltb s.top x.bottom h) (record { wrote = λ K w. rw append-nil w });
-  carries = rw (le-ltb x.top s.bottom g, le-ltb s.top x.bottom h, e, f);
-  bottom_small = omega arith;
-  top_small = omega arith;
+absorbed_met c x r g h e f s t = record {
+  wrote = rw (le-ltb x.top c.bottom g, le-ltb c.top x.bottom h) (record { wrote = λ K w. rw append-nil w });
+  carries = rw (le-ltb x.top c.bottom g, le-ltb c.top x.bottom h, e, f);
+  short = record { bottom = omega arith; top = omega arith };
 }

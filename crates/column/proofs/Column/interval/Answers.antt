@@ -1,8 +1,8 @@
--- `column::read` meets its contract. Assumes nothing.
-use mathlib.Core.Path.{ap₂}
+-- `column::Column::interval` meets its contract. Assumes nothing.
+use Rattle.std.proofs.Common.{ap₂}
 use Rattle.runs.specs.Intervals.{interval}
 use Rattle.column.specs.Part.{interval_at}
-use Rattle.column.proofs.read.Goals as goal
+use Rattle.column.proofs.Column.interval.Goals as goal
 
 pub returns : goal.returns
 unfolding interval_at
