@@ -2,4 +2,5 @@
 pub mod Runs
 pub mod Intervals
 pub mod Meet
+pub mod Meets
 pub mod Laws

@@ -1,13 +1,13 @@
 -- The laws of where two ranges meet. Assumes nothing.
-use Rattle.std.specs.Prelude.{◌≡◌, refl, ◌⊎◌, ℕ, zero, suc, ◌+◌, ◌-◌, ◌*◌, ◌/◌, ◌%◌, ◌≤◌, ◌<◌, min, max}
+use Rattle.std.specs.Prelude.{◌≡◌, ◌⊎◌, Some, None, ℕ, zero, suc, ◌+◌, ◌-◌, ◌*◌, ◌/◌, ◌%◌, ◌≤◌, ◌<◌, min, max}
 use Rattle.std.proofs.Common.{sym, inl, inr, mul-le-mul_right, lt_of_mul-lt-mul_right, div-add-mod', mod-lt, arith}
 use Rattle.runs.specs.Laws.Tests.{lt_or_ge}
 use Rattle.runs.specs.Runs.{run, Steps, In}
-use Rattle.runs.specs.Meet.{number_limit, search_limit, Step, Proper, Names, Lcm, Start, FirstCommon, Both_of, Meets}
+use Rattle.runs.specs.Meet.{number_limit, search_limit, Step, Proper, Names, Lcm, Start, Both_of}
+use Rattle.runs.specs.Meets.{Meets, FoundCommon}
 use Rattle.runs.specs.Laws.Steps.{steps_trans, steps_diff, steps_back, steps_multiple, steps_mod, mod_steps}
 use Rattle.runs.specs.Laws.Lcm.{lcm_same}
 use Rattle.runs.specs.declared.Range.{Range}
-use Rattle.runs.specs.declared.Met.TheVariants.{Empty, Both}
 
 -- ---- the first common number
 
@@ -35,14 +35,13 @@ passed_next m a c b x p l g s h = record {
         same (zero, e) = let z-x : z ≡ x = omega arith in h (mod_steps b c x (rw z-x at v))
         same (suc i, e) = omega arith
 
--- ---- the first that is not below
-
-pub start_is : (first step low : ℕ) → 1 ≤ step → first ≤ low → Start first step low (first + (low - first + step - 1) / step * step)
-start_is first step low p g =
-    let q = low - first + step - 1 in
-    let d = div-add-mod' q step in
-    let l = mod-lt q {m = step} p in
-    record { steps = (q / step, refl); above = omega arith; next = omega arith }
+-- all up to top are passed
+pub passed_all : (m a c b x top : ℕ) → Passed m a c b x → top < x → FoundCommon m a c b top None
+passed_all m a c b x top s l z u v = go (lt_or_ge z x)
+  where
+    go : (z < x) ⊎ (x ≤ z) → top < z
+    go (inl w) = absurd (s.first z u v w)
+    go (inr w) = omega arith
 
 -- ---- meeting
 
@@ -83,7 +82,7 @@ module _ (a b : Range) (pa : Proper a) (pb : Proper b) where
             let (k, h) = steps_diff a.step b.first (max a.first b.first) b.last (reach m).1 (restep b.step a.step _ _ (sym e) pb.last) (omega (arith, pa.last, pb.last)) in
             (k, omega arith)
 
-    pub equal_no : ¬ ((max a.first b.first - min a.first b.first) % a.step ≡ 0) → Meets a b Empty
+    pub equal_no : ¬ ((max a.first b.first - min a.first b.first) % a.step ≡ 0) → Meets a b None
     equal_no m y (h, k) (i, j) = m (mod_steps a.step (min a.first b.first) (max a.first b.first) (go (lt_or_ge a.first b.first)))
       where
         i' : Steps a.step b.first y
@@ -95,8 +94,7 @@ module _ (a b : Range) (pa : Proper a) (pb : Proper b) where
 
   -- ---- different steps
 
-  module _ (st l r : ℕ) (start : Start a.first a.step (max a.first b.first) st) (c : Lcm a.step b.step l)
-      (f : FirstCommon st a.step b.first b.step (min (min a.last b.last) (st + l - 1)) r) where
+  module _ (st l : ℕ) (start : Start a.first a.step (max a.first b.first) st) (c : Lcm a.step b.step l) where
     -- what both name is in steps above the start
     from_start : (y : ℕ) → Names a y → Names b y → Steps a.step st y
     from_start y (h, k) (i, j) = go (lt_or_ge y st)
@@ -112,8 +110,8 @@ module _ (a b : Range) (pa : Proper a) (pb : Proper b) where
         go (inr g) = steps_diff a.step a.first st y start.steps h g
 
     -- THEOREM: what both name is there below start + l, if anywhere
-    pub different_no : min (min a.last b.last) (st + l - 1) < r → Meets a b Empty
-    different_no g y h k =
+    pub different_no : FoundCommon st a.step b.first b.step (min (min a.last b.last) (st + l - 1)) None → Meets a b None
+    different_no f y h k =
         let q = y - st in
         let d = div-add-mod' q l in
         let m = mod-lt q {m = l} c.pos in
@@ -121,14 +119,14 @@ module _ (a b : Range) (pa : Proper a) (pb : Proper b) where
         let le = c.pos in
         let s = start.above in
         let z : Steps l (st + q % l) y = (q / l, omega (arith, w)) in
-        f.first (st + q % l)
+        let u = f (st + q % l)
         (steps_back a.step st (st + q % l) y (omega arith) w (steps_multiple a.step l _ y c.left z))
-        (steps_back b.step b.first (st + q % l) y (omega arith) k.0 (steps_multiple b.step l _ y c.right z))
-        (omega (arith, z))
+        (steps_back b.step b.first (st + q % l) y (omega arith) k.0 (steps_multiple b.step l _ y c.right z)) in
+        omega (arith, z)
 
-    pub different_yes : r ≤ min (min a.last b.last) (st + l - 1)
+    pub different_yes : {r : ℕ} → FoundCommon st a.step b.first b.step (min (min a.last b.last) (st + l - 1)) (Some r)
         → Both_of a b (record { first = r; last = min a.last b.last - (min a.last b.last - r) % l; step = l })
-    different_yes g = record {
+    different_yes {r = r} (f, g) = record {
       named = λ y. (to y, of y);
       lcm = c;
       last = ((min a.last b.last - r) / l, omega (arith, div-add-mod' (min a.last b.last - r) l));
@@ -155,25 +153,3 @@ module _ (a b : Range) (pa : Proper a) (pb : Proper b) where
                 let o : n < suc ((min a.last b.last - r) / l) = lt_of_mul-lt-mul_right l {m = n} {n = suc ((min a.last b.last - r) / l)} (omega arith) in
                 let t = mul-le-mul_right {m = n} {n = (min a.last b.last - r) / l} l (omega arith) in
                 ((n, omega arith), omega arith)
-
--- ---- the same over the results of calls: low, under, high, top are what the callees ensure
-
-module _ (a b : Range) (pa : Proper a) (pb : Proper b) (low under high : ℕ)
-    (l : low ≡ max a.first b.first) (u : under ≡ min a.first b.first) (h : high ≡ min a.last b.last) (e : a.step ≡ b.step) where
-  pub met_equal : (low - under) % a.step ≡ 0 → a.first ≤ b.last → b.first ≤ a.last → Meets a b (Both (record { first = low; last = high; step = a.step }))
-  met_equal m p q = rw (l, h) (equal_yes a b pa pb e (rw (l, u) at m) p q)
-
-  pub unmet_equal : ¬ ((low - under) % a.step ≡ 0) → Meets a b Empty
-  unmet_equal m = equal_no a b pa pb e (λ k. m (rw (l, u) k))
-
-module _ (a b : Range) (pa : Proper a) (pb : Proper b) (low high st step top r : ℕ)
-    (l : low ≡ max a.first b.first) (h : high ≡ min a.last b.last) (t : top ≡ min high (st + step - 1))
-    (s : Start a.first a.step low st) (c : Lcm a.step b.step step) (f : FirstCommon st a.step b.first b.step top r) where
-  top_is : top ≡ min (min a.last b.last) (st + step - 1)
-  top_is = omega arith
-
-  pub met : r ≤ top → Meets a b (Both (record { first = r; last = high - (high - r) % step; step = step }))
-  met g = rw h (different_yes a b pa pb st step r (rw l at s) c (rw top_is at f) (omega arith))
-
-  pub unmet : top < r → Meets a b Empty
-  unmet g = different_no a b pa pb st step r (rw l at s) c (rw top_is at f) (omega arith)
