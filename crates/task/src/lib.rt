@@ -8,8 +8,8 @@ ghost use Rattle.model.specs.Columns.{height, kind_C};
 ghost use Rattle.model.specs.Tasks.{lifted, block, blocks, sized, block_ok, follows, well_formed, step};
 ghost use Rattle.task.specs.Blocks.{seen, Same, SameExtent, Reads, ReadsSolid, starts};
 
-use model::{Kind, KindRead};
-use words::{get16, wide};
+use model::Kind;
+use words::get16;
 
 // MODEL 4.2 and 4.9: a block. Low and high are its bottom and top plus REACH, so that neither is negative.
 #[derive(Clone, Copy)]
@@ -20,7 +20,8 @@ pub struct Block {
     pub high: u32,
 }
 
-// MODEL 4.2 and 4.9: where a block is. Low and high are as in a block.
+// MODEL 4.2 and 4.9: where a block is. Low and high are as in a block. Not a part of Block, which would be no plainer: each of its columns, lows and
+// highs would be named by one field more.
 #[derive(Drop)]
 pub struct Extent {
     pub column: u32,
@@ -55,8 +56,27 @@ impl Block {
     pub fn height(self) -> u32
         ensures { result ≡ height (seen self).kind }
     {
-        let kind = self.kind;
-        kind.height()
+        self.kind.height()
+    }
+
+    // MODEL 4.6, 4.9 and 4.10: whether it is by itself one of a well-formed task.
+    #[tactic(auto, using(model::proofs::Laws::Columns::height_pos, model::proofs::Laws::Kinds::known), unfolding(model::specs::Tasks::block_ok))]
+    fn is_solid(self) -> bool
+        ensures { result ≡ block_ok (seen self) }
+    {
+        self.column < model::MAX_COLUMNS as u32
+            && self.low < self.high
+            && self.high <= 2 * model::REACH
+            && (self.high - self.low) % self.height() == 0
+    }
+
+    // MODEL 4.6 and 4.7: whether it may come right after `last`.
+    #[tactic(auto, unfolding(model::specs::Tasks::follows))]
+    fn follows(self, last: Block) -> bool
+        ensures { result ≡ follows (seen last) (seen self) }
+    {
+        last.column < self.column
+            || (last.column == self.column && last.kind == self.kind && last.high < self.low)
     }
 }
 
@@ -77,6 +97,7 @@ impl<'a> Task<'a> {
     }
 
     // MODEL 4.1: how many blocks it has.
+    #[tactic(auto, using(model::proofs::Laws::Tasks::sized_to), unfolding(model::specs::Tasks::blocks))]
     pub fn count(self) -> usize
         ensures count { result ≡ blocks self.entry.bytes.now }
         ensures some { 0 < result }
@@ -86,14 +107,16 @@ impl<'a> Task<'a> {
     }
 
     // MODEL 4.2: its block k.
+    #[tactic(auto, using(model::proofs::Laws::Tasks::solid_block), unfolding(model::specs::Tasks::blocks))]
     pub fn block(self, k: usize) -> Block
         requires { k < blocks self.bytes.now }
         ensures { Same result (block self.entry.bytes.now k) }
     {
-        block_at(self.bytes, k)
+        read_block(self.bytes, k).unwrap()
     }
 
     // MODEL 4.2: where its block k is.
+    #[tactic(auto, unfolding(model::specs::Tasks::blocks))]
     pub fn extent(self, k: usize) -> Extent
         requires { k < blocks self.bytes.now }
         ensures { SameExtent result (block self.entry.bytes.now k) }
@@ -110,6 +133,7 @@ impl<'a> Task<'a> {
 }
 
 // MODEL 4.9: a signed bottom or top plus REACH.
+#[tactic(auto, unfolding(model::specs::Tasks::lifted))]
 fn lift(v: u32) -> u32
     requires { v < words }
     ensures { result ≡ lifted v }
@@ -118,27 +142,27 @@ fn lift(v: u32) -> u32
 }
 
 // MODEL 4.2: where block i of a task is. The kind is not looked at.
+#[tactic(auto, unfolding(model::specs::Tasks::block))]
 pub fn extent_at(task: &[u8], i: usize) -> Extent
     requires { block_size * i + block_size ≤ length task.now }
     ensures { SameExtent result (block task.now i) }
 {
     let at = model::BLOCK_SIZE * i;
     Extent {
-        column: wide(task[at]),
+        column: u32::from(task[at]),
         low: lift(get16(task, at + model::BLOCK_BOTTOM_AT)),
         high: lift(get16(task, at + model::BLOCK_TOP_AT)),
     }
 }
 
 // MODEL 4.2 and 4.8: block i of a task, where its kind byte is a kind's.
+#[tactic(auto, using(model::proofs::Laws::Kinds::known_kind, model::proofs::Laws::Kinds::unknown_kind), unfolding(model::specs::Tasks::block))]
 pub fn read_block(task: &[u8], i: usize) -> Option<Block>
     requires { block_size * i + block_size ≤ length task.now }
     ensures { Reads result (block task.now i) }
 {
     let at = model::BLOCK_SIZE * i;
-    let KindRead::Known(kind) = Kind::of_byte(task[at + model::BLOCK_KIND_AT]) else {
-        return None;
-    };
+    let kind = Kind::try_from(task[at + model::BLOCK_KIND_AT]).ok()?;
     let extent = extent_at(task, i);
     Some(Block {
         column: extent.column,
@@ -157,84 +181,42 @@ pub fn block_at(task: &[u8], i: usize) -> Block
 }
 
 // MODEL 4.1: whether the bytes are those of 1 to 32 whole blocks.
+#[tactic(auto, unfolding(model::specs::Tasks::sized))]
 pub fn sized(task: &[u8]) -> bool
     ensures { result ≡ sized task.now }
 {
     let n = task.len();
-    if n == 0 {
-        return false;
-    }
-    if n > model::BLOCK_SIZE * model::MAX_BLOCKS {
-        return false;
-    }
-    n % model::BLOCK_SIZE == 0
-}
-
-// MODEL 4.6, 4.9 and 4.10: whether a block by itself is one of a well-formed task.
-fn block_ok(b: Block) -> bool
-    ensures { result ≡ block_ok (seen b) }
-{
-    if b.column >= model::MAX_COLUMNS as u32 {
-        return false;
-    }
-    if b.high <= b.low {
-        return false;
-    }
-    if b.high > 2 * model::REACH {
-        return false;
-    }
-    (b.high - b.low) % b.height() == 0
-}
-
-// MODEL 4.6 and 4.7: whether b may come right after a.
-fn follows(a: Block, b: Block) -> bool
-    ensures { result ≡ follows (seen a) (seen b) }
-{
-    if a.column < b.column {
-        return true;
-    }
-    if a.column != b.column {
-        return false;
-    }
-    let under = a.kind;
-    let over = b.kind;
-    if under.number() != over.number() {
-        return false;
-    }
-    a.high < b.low
+    n != 0 && n <= model::BLOCK_SIZE * model::MAX_BLOCKS && n % model::BLOCK_SIZE == 0
 }
 
 // Byte i, or 0 past the end.
-fn byte_or_zero(s: &[u8], i: usize) -> u32
-    ensures { (result ≡ get_or s.now i 0) × (result < 256) }
+fn byte_or_zero(task: &[u8], i: usize) -> u8
+    ensures { result ≡ get_or task.now i 0 }
 {
-    if i < s.len() {
-        return wide(s[i]);
-    }
-    0
+    task.get(i).copied().unwrap_or(0)
 }
 
 // MODEL 4.5: whether column and bottom of the first block are 0. Bytes that are missing count as 0.
+#[tactic(auto, unfolding(crate::specs::Blocks::starts, model::specs::Tasks::block, model::specs::Tasks::word, model::specs::Tasks::lifted))]
 fn starts_at_zero(task: &[u8]) -> bool
     ensures { result ≡ starts task.now }
 {
-    if byte_or_zero(task, 0) != 0 {
-        return false;
-    }
-    let low = byte_or_zero(task, model::BLOCK_BOTTOM_AT);
-    let high = byte_or_zero(task, model::BLOCK_BOTTOM_AT + 1);
-    low + model::BYTES * high == 0
+    byte_or_zero(task, 0) == 0
+        && byte_or_zero(task, model::BLOCK_BOTTOM_AT) == 0
+        && byte_or_zero(task, model::BLOCK_BOTTOM_AT + 1) == 0
 }
 
 // Block i of a task, where by itself it is one of a well-formed task.
+#[tactic(auto, using(crate::specs::Laws::Blocks::bad_block, crate::specs::Laws::Blocks::tested))]
 fn solid_block(task: &[u8], i: usize) -> Option<Block>
     requires { block_size * i + block_size ≤ length task.now }
     ensures { ReadsSolid result (block task.now i) }
 {
-    read_block(task, i).filter(|b| block_ok(*b))
+    read_block(task, i).filter(|block| block.is_solid())
 }
 
 // MODEL 4.4: whether a task is well-formed.
+#[tactic(auto, unfolding(model::specs::Tasks::blocks, model::specs::Tasks::well_formed, crate::specs::Blocks::starts, model::specs::Bounded::all_below))]
 pub fn well_formed(task: &[u8]) -> bool
     ensures { result ≡ well_formed task.now }
 {
@@ -245,53 +227,38 @@ pub fn well_formed(task: &[u8]) -> bool
     if count == 0 {
         return true;
     }
-    let Some(first) = solid_block(task, 0) else {
+    let Some(mut last) = solid_block(task, 0) else {
         return false;
     };
-    let mut last = first;
-    let mut i = 1;
-    while i < count {
+    for i in 1..count {
         let Some(next) = solid_block(task, i) else {
             return false;
         };
-        if !follows(last, next) {
+        if !next.follows(last) {
             return false;
         }
         last = next;
-        i += 1;
     }
     true
 }
 
-// Whether a kind byte says C.
-fn is_logic(byte: u8) -> bool
-    ensures { result ≡ eqb byte kind_C }
-{
-    byte == Kind::C.number()
-}
-
 // MODEL 10.1: the step of a task.
+#[tactic(auto, unfolding(model::specs::Tasks::blocks, model::specs::Tasks::block, model::specs::Tasks::step, model::specs::Bounded::any_below))]
 pub fn step(task: &[u8]) -> u32
     ensures { result ≡ step task.now }
 {
-    let count = task.len() / model::BLOCK_SIZE;
     let mut logic = false;
     let mut other = false;
-    let mut i = 0;
-    while i < count {
-        let at = model::BLOCK_SIZE * i + model::BLOCK_KIND_AT;
-        if is_logic(task[at]) {
+    for i in 0..task.len() / model::BLOCK_SIZE {
+        if task[model::BLOCK_SIZE * i + model::BLOCK_KIND_AT] == u8::from(Kind::C) {
             logic = true;
         } else {
             other = true;
         }
-        i += 1;
     }
-    if !logic {
-        return Kind::B_HEIGHT;
+    match (logic, other) {
+        (false, _) => Kind::B_HEIGHT,
+        (true, false) => Kind::C_HEIGHT,
+        (true, true) => Kind::C_HEIGHT * Kind::B_HEIGHT,
     }
-    if other {
-        return Kind::C_HEIGHT * Kind::B_HEIGHT;
-    }
-    Kind::C_HEIGHT
 }
