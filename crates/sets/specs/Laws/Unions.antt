@@ -142,6 +142,13 @@ module _ (P : List ℕ) (f : Falls (at P)) (i j a b : ℕ) (ea : a ≡ root P i)
       let g : b ≡ min (root P i) (root P j) = omega arith in
       (ap₂ (set P) h g, ap not (sym (ne_eqb (root P i) (root P j) (λ e. omega arith))))
 
+  pub unite_two : ¬ (a ≡ b) → {h l : ℕ} → h ≡ max a b → l ≡ min a b → (set P h l ≡ union P i j) × (true ≡ not (eqb (root P i) (root P j)))
+  unfolding union
+  unite_two n {h = h} {l = l} eh el =
+      let u : h ≡ max (root P i) (root P j) = omega arith in
+      let d : l ≡ min (root P i) (root P j) = omega arith in
+      (ap₂ (set P) u d, ap not (sym (ne_eqb (root P i) (root P j) (λ e. n (ea ∙ e ∙ sym eb)))))
+
 -- ---- a list of edges
 
 module _ (m : ℕ) where
