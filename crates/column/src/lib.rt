@@ -36,6 +36,7 @@ impl Interval {
 
 impl Column<'_> {
     // MODEL 8.3: interval i of the part.
+    #[tactic(auto, unfolding(crate::specs::Part::interval_at))]
     pub fn interval(self, i: usize) -> Interval
         requires { i < max_intervals }
         ensures { ReadAt self.entry.part.now i result }
@@ -89,6 +90,7 @@ struct Draft {
 
 impl Draft {
     // The part of no intervals: zeros.
+    #[tactic(auto, using(crate::specs::Laws::Writing::zeros))]
     fn new() -> Draft
         ensures { Holding result.bytes result.count [] }
     {
@@ -99,6 +101,7 @@ impl Draft {
     }
 
     // Writes an interval behind those that are there.
+    #[tactic(auto, using(crate::specs::Laws::Writing::wrote_one))]
     fn push(&mut self, next: Interval)
         requires room { self.old.count < max_intervals }
         requires short { Short next }
@@ -111,6 +114,7 @@ impl Draft {
     }
 
     // The same, unless the interval is empty.
+    #[tactic(auto, using(crate::specs::Laws::Writing::wrote_piece, crate::specs::Laws::Writing::wrote_none))]
     fn keep(&mut self, next: Interval)
         requires room { next.bottom < next.top → self.old.count < max_intervals }
         requires short { next.top < words }

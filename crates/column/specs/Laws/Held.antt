@@ -1,11 +1,6 @@
 -- MODEL 11.1: the interval of a list that holds b..t, what the search of `holder` finds, and the loop. Assumes nothing.
-use Prim.Native.Nat.{ℕ, suc, ◌+◌, ◌-◌, ◌≤◌, ◌<◌}
-use Rattle.std.proofs.Math.Path.{◌≡◌, sym}
-use Rattle.std.specs.Prelude.{refl, Bool, true, false, ◌&&◌, leb, Some, None}
-use Rattle.std.proofs.Common.{◌∙◌, arith}
-use Rattle.std.proofs.Math.Logic.{inl, inr}
-use mathlib.Core.List.{List, [], ◌∷◌}
-use borrow.Author.Tests.{lt-ltb, le-ltb, le-leb, lt-leb}
+use Rattle.std.proofs.Common.{ℕ, suc, ◌+◌, ◌-◌, ◌≤◌, ◌<◌, ◌≡◌, sym, refl, Bool, true, false, ◌&&◌, leb, Some, None, ◌∙◌, arith, inl, inr, List, [], ◌∷◌, lt-ltb, le-ltb, le-leb}
+use borrow.Author.Tests.{lt-leb}
 use Rattle.runs.specs.Intervals.{Interval, interval, Apart, Holds}
 use Rattle.runs.specs.Laws.Tests.{tests, cond_ind}
 use Rattle.runs.specs.Laws.Intervals.{named_ge, holds_of}

@@ -1,6 +1,5 @@
 -- MODEL 8.2 and 8.3: a column's part as it is lent out of a record. What it lists is what the record lists for the column. Assumes nothing.
-use Rattle.std.specs.Prelude.{ℕ, ◌+◌, ◌-◌, ◌*◌, ◌≤◌, ◌<◌, ◌≡◌, List, length, take, drop}
-use Rattle.std.proofs.Common.{sym, arith, add_assoc, zero-add}
+use Rattle.std.proofs.Common.{ℕ, ◌+◌, ◌-◌, ◌*◌, ◌≤◌, ◌<◌, ◌≡◌, List, length, take, drop, sym, arith, add_assoc, zero-add}
 use Rattle.runs.specs.Intervals.{interval}
 use Rattle.model.specs.Limits.{max_columns, max_intervals, record_size, column_size, interval_size}
 use Rattle.model.specs.Record.{part, column_at, listed_intervals}

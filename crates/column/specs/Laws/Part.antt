@@ -1,6 +1,5 @@
 -- MODEL 8.3: a part that holds a list of intervals, what it lists, and what `cut` and `join` ask of it and leave. Assumes nothing.
-use Rattle.std.specs.Prelude.{ℕ, zero, suc, ◌+◌, ◌-◌, ◌≤◌, ◌<◌, ◌≡◌, refl, Bool, List, [], ◌∷◌, length, get_or}
-use Rattle.std.proofs.Common.{ap, ap₂, ◌∙◌, inl, inr, arith, zero-add}
+use Rattle.std.proofs.Common.{ℕ, zero, suc, ◌+◌, ◌-◌, ◌≤◌, ◌<◌, ◌≡◌, refl, Bool, List, [], ◌∷◌, length, get_or, ap, ap₂, ◌∙◌, inl, inr, arith, zero-add}
 use Rattle.runs.specs.Intervals.{Interval, interval, Named, Apart, Free, unite}
 use Rattle.model.specs.Limits.{max_intervals, words}
 use Rattle.model.specs.Record.{column_part}

@@ -1,12 +1,6 @@
 -- The first interval, from a number on, that ends at t or above it: what the search of `reaching` finds, and the loop. Assumes nothing.
-use Prim.Native.Nat.{ℕ, zero, suc, ◌+◌, ◌*◌, ◌≤◌, ◌<◌}
-use Rattle.std.specs.Prelude.{◌≡◌, length, get_or}
-use Rattle.std.proofs.Math.Path.{refl, sym, ap}
-use Rattle.std.proofs.Common.{◌∙◌, inl, inr, add-one}
-use mathlib.Core.List.{List, [], ◌∷◌}
-use native.Mathlib.Omega.{arith}
-use Rattle.std.proofs.Math.Nat.{zero-add}
-use borrow.Author.Tests.{le-leb, lt-leb, lt-ltb, le-ltb}
+use Rattle.std.proofs.Common.{ℕ, zero, suc, ◌+◌, ◌*◌, ◌≤◌, ◌<◌, ◌≡◌, length, get_or, refl, sym, ap, ◌∙◌, inl, inr, add-one, List, [], ◌∷◌, arith, zero-add, le-leb, lt-ltb, le-ltb}
+use borrow.Author.Tests.{lt-leb}
 use Rattle.runs.specs.Intervals.{Interval, interval, Apart, Holds}
 use Rattle.runs.specs.Laws.Intervals.{named_ge, holds_of}
 use Rattle.model.specs.Limits.{interval_size}

@@ -1,6 +1,5 @@
 -- The intervals of a part that a loop has still to read: at the start, one more, at the end. Assumes nothing.
-use Rattle.std.specs.Prelude.{ℕ, suc, ◌+◌, ◌-◌, ◌≤◌, ◌<◌, ◌≡◌, List, [], ◌∷◌}
-use Rattle.std.proofs.Common.{arith, add-one}
+use Rattle.std.proofs.Common.{ℕ, suc, ◌+◌, ◌-◌, ◌≤◌, ◌<◌, ◌≡◌, List, [], ◌∷◌, arith, add-one}
 use Rattle.std.proofs.Math.Nat.{sub-zero}
 use Rattle.runs.specs.Intervals.{interval}
 use Rattle.column.specs.declared.Interval.{Interval as Read}

@@ -1,8 +1,6 @@
 -- MODEL 12.4 and 12.5: the loops of `cut` and `join`, which read a part from its front, and write another. Assumes nothing.
-use Rattle.std.specs.Prelude.{ℕ, suc, ◌+◌, ◌-◌, ◌*◌, ◌≤◌, ◌<◌, min, max, ◌≡◌, refl, List, [], ◌∷◌, ◌++◌, length, replicate}
-use Rattle.std.proofs.Common.{sym, ap, ◌∙◌, append_assoc, append-nil, arith, length-append}
+use Rattle.std.proofs.Common.{ℕ, suc, ◌+◌, ◌-◌, ◌*◌, ◌≤◌, ◌<◌, min, max, ◌≡◌, refl, List, [], ◌∷◌, ◌++◌, length, replicate, sym, ap, ◌∙◌, append_assoc, append-nil, arith, length-append, lt-ltb, le-ltb}
 use Rattle.std.proofs.Math.Decide.{dec_lt}
-use borrow.Author.Tests.{lt-ltb, le-ltb}
 use Rattle.runs.specs.Intervals.{Interval, interval, Apart, piece, subtract, unite}
 use Rattle.runs.specs.Laws.Streaming.{piece_some, piece_none, piece_append, unite_before}
 use Rattle.model.specs.Limits.{max_intervals, column_size, interval_size}

@@ -1,6 +1,5 @@
 -- MODEL 4.5 to 4.10: the code's blocks are the model's, and so are the tests on one, on two neighbours and on the first. Assumes nothing.
-use Rattle.std.specs.Prelude.{ℕ, ◌+◌, ◌*◌, ◌≤◌, ◌<◌, ◌≡◌, Bool, true, false, List, length}
-use Rattle.std.proofs.Common.{sym, ap, ap₂, ◌∙◌, arith}
+use Rattle.std.proofs.Common.{ℕ, ◌+◌, ◌*◌, ◌≤◌, ◌<◌, ◌≡◌, Bool, true, false, List, length, sym, ap, ap₂, ◌∙◌, arith}
 use Rattle.model.specs.Limits.{max_kind, block_size}
 use Rattle.model.specs.Tasks as model
 use Rattle.model.specs.Tasks.{word, lifted, blocks, block, block_ok, follows, well_formed}

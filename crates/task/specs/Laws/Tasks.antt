@@ -1,7 +1,5 @@
 -- MODEL 4.4: what holds of a task tested block by block. Assumes nothing.
-use Rattle.std.specs.Prelude.{ℕ, suc, ◌+◌, ◌-◌, ◌≤◌, ◌<◌, ◌≡◌, Bool, true, false, List}
-use Rattle.std.proofs.Math.Path.{sym}
-use Rattle.std.proofs.Common.{◌∙◌, arith, add-one}
+use Rattle.std.proofs.Common.{ℕ, suc, ◌+◌, ◌-◌, ◌≤◌, ◌<◌, ◌≡◌, Bool, true, false, List, sym, ◌∙◌, arith, add-one}
 use Rattle.model.specs.Bounded.{all_below}
 use Rattle.model.specs.Tasks.{blocks, block, block_ok, follows, well_formed}
 use Rattle.model.proofs.Laws.Bounded.{is_false, clash, and_of, and3_to, all_to, all_of}
