@@ -1,5 +1,5 @@
 -- MODEL 15: what the exported calls promise together, the two theorems over whole histories (model/proofs/Laws/History.antt), under their names.
--- Each function of src/lib.rt promises the answer and every lent byte of `new`, `on_record`, `interval_count` or `fragmentation` (model/specs/OnRecord.antt), and has
+-- Each function of src/lib.rt promises the answer, by its number, and every lent byte of `new`, `on_record`, `interval_count` or `fragmentation` (model/specs/OnRecord.antt), and has
 -- no `requires` (MODEL 21.1). `on_record` is also the step of `on_records`, so what the theorems say of `on_records` is what a list of calls of these
 -- functions does.
 -- Assumes nothing.

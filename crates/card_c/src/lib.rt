@@ -1,4 +1,4 @@
-// MODEL 16.4: the calls of `card` in the C calling form, for the match server. Each promises what the call of its name promises.
+// MODEL 16.4: the calls of `card` in the C calling form, for the match server: an answer crosses as its number (MODEL 12.1 and 13.1).
 // A slice crosses as a pointer and a length. What is linked is target/staticlib/libcard.a; host/card.h declares these functions.
 #![tactic(auto)]
 
@@ -7,12 +7,14 @@ ghost use Rattle.model.specs.Calls.{list, choose, place, release};
 ghost use Rattle.model.specs.OnRecord.{on_record, new, interval_count, fragmentation};
 ghost use Rattle.card.specs.Leaves.{Leaves, Changes, Tells};
 
+use card::answer;
+
 // MODEL 12.3: writes the record of a device with all cells free.
 #[unsafe(no_mangle)]
 pub extern "C" fn card_new(record: &mut [u8], rows: u32, kinds: &[u8]) -> i32
     ensures { Changes (new «record».old rows kinds.now) result «record».new }
 {
-    card::card_new(record, rows, kinds)
+    answer(card::new(record, rows, kinds).map(|()| 0))
 }
 
 // MODEL 12.4: enters a task as running and takes its cells.
@@ -26,7 +28,7 @@ pub extern "C" fn card_place(
 ) -> i32
     ensures { Changes (on_record «record».old (place task.now number column bottom)) result «record».new }
 {
-    card::card_place(record, task, number, column, bottom)
+    answer(card::place(record, task, number, column, bottom).map(|()| 0))
 }
 
 // MODEL 12.5: frees the cells of a running task and removes its entry.
@@ -34,7 +36,7 @@ pub extern "C" fn card_place(
 pub extern "C" fn card_release(record: &mut [u8], number: u32) -> i32
     ensures { Changes (on_record «record».old (release number)) result «record».new }
 {
-    card::card_release(record, number)
+    answer(card::release(record, number).map(|()| 0))
 }
 
 // MODEL 12.6: writes the ranges of the positions at which a task fits.
@@ -42,7 +44,7 @@ pub extern "C" fn card_release(record: &mut [u8], number: u32) -> i32
 pub extern "C" fn card_list(record: &[u8], task: &[u8], output: &mut [u8]) -> i32
     ensures { Leaves (on_record «record».now (list task.now output.old)) result «record».now output.new }
 {
-    card::card_list(record, task, output)
+    answer(card::list(record, task, output))
 }
 
 // MODEL 11.6: the choice for a task, as 1,024 × column + bottom.
@@ -50,7 +52,7 @@ pub extern "C" fn card_list(record: &[u8], task: &[u8], output: &mut [u8]) -> i3
 pub extern "C" fn card_choose(record: &[u8], task: &[u8]) -> i32
     ensures { Leaves (on_record «record».now (choose task.now)) result «record».now [] }
 {
-    card::card_choose(record, task)
+    answer(card::choose(record, task))
 }
 
 // MODEL 16.1: the number of free intervals of a column.
@@ -58,7 +60,7 @@ pub extern "C" fn card_choose(record: &[u8], task: &[u8]) -> i32
 pub extern "C" fn card_interval_count(record: &[u8], column: u32) -> i32
     ensures { Leaves (interval_count «record».now column) result «record».now [] }
 {
-    card::card_interval_count(record, column)
+    answer(card::interval_count(record, column))
 }
 
 // MODEL 22.5: how broken up a card is. The answer is the number of connected sets; the free cells and the degree are written, as zeros if refused.
@@ -66,5 +68,9 @@ pub extern "C" fn card_interval_count(record: &[u8], column: u32) -> i32
 pub extern "C" fn card_fragmentation(record: &[u8], free: &mut i32, degree: &mut i32) -> i32
     ensures { Tells (fragmentation «record».now) result free.new degree.new «record».now }
 {
-    card::card_fragmentation(record, free, degree)
+    let broken = card::fragmentation(record);
+    let numbers = broken.unwrap_or_default();
+    *free = numbers.free as i32;
+    *degree = numbers.degree as i32;
+    answer(broken.map(|numbers| numbers.sets as i32))
 }

@@ -1,24 +1,15 @@
--- `check_release`: −1, −2, −11, or none of them. Assumes nothing.
-use mathlib.Core.Path.{sym, ◌∙◌}
+-- `check_release`: −11, or a task that runs. Assumes nothing.
 use native.Mathlib.Omega.{arith}
-use Rattle.card.specs.Laws.Checks.{checked, record_release}
+use Rattle.record.specs.Laws.Entries.{found_runs}
 use Rattle.card.specs.Laws.Release.{release_not}
 use Rattle.card.proofs.check_release.Goals as goal
 
-pub returns-in_default : goal.returns-in_default
-returns-in_default c = record_release _ _ c.check_record-check.ensures c.in_default.is _
-
-pub runs-requires : goal.runs-requires
-runs-requires c = checked _ _ c.check_record-check.ensures c.in-Pass.is
-
-pub returns-then-not-runs : goal.returns-then-not-runs
-returns-then-not-runs c =
-    let e = c in
-    let k = e in
-    release_not _ _ (checked _ _ k.check_record-check.ensures e.in-Pass.is) (λ i. omega (arith, k.shared_slice_known-1.given i)) (sym c.runs.ensures ∙ c.if-not-runs.true)
+pub returns-then-is_none : goal.returns-then-is_none
+returns-then-is_none c =
+    let k = c.in_ok-check_record in
+    release_not _ _ (rw k.ensures at k.field-0.sound) (λ i. omega (arith, c.type_inv.record i)) (rw (c.find.ensures, found_runs c.args.number _, k.ensures) at c.if-is_none.ensures)
 
 pub returns : goal.returns
 returns c =
-    let e = c in
-    let k = e in
-    (checked _ _ k.check_record-check.ensures e.in-Pass.is, sym c.runs.ensures ∙ c.if-not-runs.false)
+    let k = c.in_ok-check_record in
+    record { sound = rw k.ensures at k.field-0.sound; runs = rw (c.find.ensures, found_runs c.args.number _, k.ensures) at c.if-is_none.ensures }
