@@ -20,15 +20,14 @@ mod old;
 mod answers; // what calls answer, and an answer as its number
 
 pub use answers::{Chosen, Fragmentation, answer};
-pub use old::{
-    TASK_LENGTH, card_choose, card_fragmentation, card_interval_count, card_list, card_new, card_place,
-    card_release,
-};
-pub use refusal::Refusal;
-
 use choice::Best;
 use listing::output::Listed;
+pub use old::{
+    TASK_LENGTH, card_choose, card_fragmentation, card_interval_count, card_list, card_new,
+    card_place, card_release,
+};
 use record::checked::{RecordFault, SoundRecord};
+pub use refusal::Refusal;
 use task::{Position, Task, TaskFault};
 
 // MODEL 13.1, −1 and −2: bytes that are no sound record.

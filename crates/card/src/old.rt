@@ -16,13 +16,7 @@ pub fn card_new(record: &mut [u8], rows: u32, kinds: &[u8]) -> i32
 }
 
 // MODEL 12.4: enters a task as running and takes its cells.
-pub fn card_place(
-    record: &mut [u8],
-    task: &[u8],
-    number: u32,
-    column: u32,
-    bottom: i32,
-) -> i32
+pub fn card_place(record: &mut [u8], task: &[u8], number: u32, column: u32, bottom: i32) -> i32
     ensures { Changes (on_record «record».old (place task.now number column bottom)) result «record».new }
 {
     answer(crate::place(record, task, number, column, bottom).map(|()| 0))

@@ -5,7 +5,7 @@ use Rattle.model.specs.Calls.{choose, lent}
 use Rattle.choice.specs.Choosing.{answer_of}
 use Rattle.card.specs.Laws.Answers.{leaves_refused}
 use Rattle.card.specs.Laws.Checks.{given}
-use Rattle.card.specs.Laws.Positions.{choose_answers, choose_few}
+use Rattle.card.specs.Laws.Positions.{choose_answers}
 use Rattle.card.proofs.choose.Goals as goal
 
 pub returns-in_err-record : goal.returns-in_err-record

@@ -1,15 +1,12 @@
 -- MODEL 22.5 and 22.6: the fragmentation, return by return. Assumes nothing.
 use Rattle.std.specs.Prelude.{ℕ, ◌≡◌, true, List, ℤ, pos, length}
-use Rattle.std.proofs.Common.{sym, ap, ap₂, ◌∙◌}
+use Rattle.std.proofs.Common.{sym, ap}
 use Rattle.model.specs.Fragments.{free_cells, connected_sets, degree}
 use Rattle.model.specs.Record.{device_of, book_of}
 use Rattle.model.specs.Sound.{sound}
 use Rattle.model.specs.OnRecord.{Fragmentation, measured, fragmentation}
 use Rattle.model.proofs.Laws.OnRecord.{fragmentation_done}
-use Rattle.card.specs.declared.refusal.Refusal.{Refusal}
-use Rattle.card.specs.Refusals.{number_of}
 use Rattle.card.specs.Leaves.{Tells}
-use Rattle.card.specs.Checks.{Unmeasured}
 
 -- m has these three numbers and this record
 tells : {m : Fragmentation} {a f g : ℤ} {r : List ℕ} → m ≡ record { answer = a; free = f; degree = g; state = r } → Tells m a f g r

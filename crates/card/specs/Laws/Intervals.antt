@@ -1,5 +1,5 @@
 -- MODEL 16: the interval count and the view, return by return. Assumes nothing.
-use Rattle.std.specs.Prelude.{ℕ, ◌+◌, ◌-◌, ◌*◌, ◌≤◌, ◌<◌, ◌≡◌, true, List, [], ℤ, pos, get_or, take, drop}
+use Rattle.std.specs.Prelude.{ℕ, ◌+◌, ◌-◌, ◌*◌, ◌≤◌, ◌<◌, ◌≡◌, true, List, [], pos, take, drop}
 use Rattle.std.proofs.Common.{sym, ap, ◌∙◌}
 use Rattle.std.proofs.lemmas.List.{take-take}
 use native.Mathlib.Omega.{arith}
@@ -11,7 +11,7 @@ use Rattle.model.specs.OnRecord.{interval_count, view_of, view}
 use Rattle.model.proofs.Laws.WriteBack.{Bytes}
 use Rattle.model.proofs.Laws.Limits.{limits_to}
 use Rattle.model.proofs.Laws.Record.{record_count}
-use Rattle.model.proofs.Laws.Sound.{columns_said, sound_record}
+use Rattle.model.proofs.Laws.Sound.{sound_record}
 use Rattle.model.proofs.Laws.Clauses.{clauses_to}
 use Rattle.model.proofs.Laws.OnRecord.{count_no_column, count_done}
 use Rattle.column.specs.Laws.Lent.{lent}

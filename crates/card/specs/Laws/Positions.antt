@@ -1,5 +1,5 @@
 -- MODEL 10, 11 and 12: list and choose, return by return. Assumes nothing.
-use Rattle.std.specs.Prelude.{ℕ, ◌+◌, ◌*◌, ◌≤◌, ◌<◌, ◌≡◌, refl, List, [], ℤ, pos, length}
+use Rattle.std.specs.Prelude.{ℕ, ◌*◌, ◌≤◌, ◌<◌, ◌≡◌, refl, List, [], ℤ, length}
 use Rattle.std.proofs.Math.Path.{sym}
 use Rattle.std.proofs.Common.{◌∙◌, arith}
 use Rattle.std.proofs.Math.Option.{Option, none, some}
@@ -23,11 +23,9 @@ use Rattle.listing.specs.declared.output.Listed.TheVariants.{Ranges}
 use Rattle.choice.specs.Choosing.{answer_of as best_answer, Chooses}
 use Rattle.choice.specs.declared.Best.{Best}
 use Rattle.choice.specs.declared.Best.TheVariants.{At as BestAt}
-use Rattle.card.specs.declared.refusal.Refusal.{Refusal}
 use Rattle.card.specs.declared.refusal.Refusal.TheVariants.{OutputShort}
 use Rattle.card.specs.Refusals.{number_of}
 use Rattle.card.specs.Leaves.{Leaves}
-use Rattle.card.specs.Checks.{RefusesTask}
 use Rattle.card.specs.Laws.Answers.{leaves}
 
 -- ---- list
