@@ -148,6 +148,7 @@ pub enum KindRead {
     Unknown,
 }
 
+#[tactic(auto, using(crate::proofs::Laws::Columns::height_pos), unfolding(crate::specs::Columns::height, crate::specs::Columns::cells_in, crate::specs::Columns::top_in))]
 impl Kind {
     // MODEL 3.3: heights in half rows.
     pub const C_HEIGHT: u32 = 2;
@@ -156,26 +157,30 @@ impl Kind {
 
     pub const D_HEIGHT: u32 = 5;
 
-    pub fn height(self) -> u32
-        ensures { result ≡ height (number_of self) }
+    // What `f` makes of the height of this kind. In each arm that is a constant, so a division by it is as fast as one by a constant.
+    fn with_height<T, F: FnOnce(u32) -> T>(self, f: F) -> T
+        requires { F.pre f (height (number_of self)) }
+        ensures { F.post f (height (number_of self)) result }
     {
         match self {
-            Kind::C => Kind::C_HEIGHT,
-            Kind::B => Kind::B_HEIGHT,
-            Kind::D => Kind::D_HEIGHT,
+            Kind::C => f(Kind::C_HEIGHT),
+            Kind::B => f(Kind::B_HEIGHT),
+            Kind::D => f(Kind::D_HEIGHT),
         }
     }
 
-    // MODEL 3.4: the cells of a column of this kind. Here and below each kind has its own constant: through `height` it would be slower.
+    pub fn height(self) -> u32
+        ensures { result ≡ height (number_of self) }
+    {
+        self.with_height(|height| height)
+    }
+
+    // MODEL 3.4: the cells of a column of this kind.
     pub fn cells(self, rows: u32) -> u32
         requires { rows ≤ max_rows }
         ensures { result ≡ cells_in rows (number_of self) }
     {
-        match self {
-            Kind::C => 2 * rows / Kind::C_HEIGHT,
-            Kind::B => 2 * rows / Kind::B_HEIGHT,
-            Kind::D => 2 * rows / Kind::D_HEIGHT,
-        }
+        self.with_height(|height| 2 * rows / height)
     }
 
     // MODEL 3.6: the top of such a column.
@@ -183,33 +188,21 @@ impl Kind {
         requires { rows ≤ max_rows }
         ensures { result ≡ top_in rows (number_of self) }
     {
-        match self {
-            Kind::C => Kind::C_HEIGHT * (2 * rows / Kind::C_HEIGHT),
-            Kind::B => Kind::B_HEIGHT * (2 * rows / Kind::B_HEIGHT),
-            Kind::D => Kind::D_HEIGHT * (2 * rows / Kind::D_HEIGHT),
-        }
+        self.with_height(|height| height * (2 * rows / height))
     }
 
     // MODEL 3.5: the cell of such a column that has half row z.
     pub fn cell(self, z: u32) -> u32
         ensures { result ≡ z / height (number_of self) }
     {
-        match self {
-            Kind::C => z / Kind::C_HEIGHT,
-            Kind::B => z / Kind::B_HEIGHT,
-            Kind::D => z / Kind::D_HEIGHT,
-        }
+        self.with_height(|height| z / height)
     }
 
     // Whether n half rows are whole cells.
     pub fn whole(self, n: u32) -> bool
         ensures { result ≡ eqb (n % height (number_of self)) 0 }
     {
-        match self {
-            Kind::C => n % Kind::C_HEIGHT == 0,
-            Kind::B => n % Kind::B_HEIGHT == 0,
-            Kind::D => n % Kind::D_HEIGHT == 0,
-        }
+        self.with_height(|height| n % height == 0)
     }
 
     pub fn number(self) -> u8
