@@ -1,11 +1,14 @@
 -- The laws of tests, bounded tests and sums. Assumes nothing.
-use Rattle.std.specs.Prelude.{ℕ, zero, suc, ◌+◌, ◌≤◌, ◌<◌, ◌≡◌, refl, ◌⊎◌, Bool, true, false, ◌&&◌, List, [], ◌∷◌, ◌++◌, map}
+use Rattle.std.specs.Prelude.{ℕ, zero, suc, ◌+◌, ◌≤◌, ◌<◌, ◌≡◌, refl, ◌⊎◌, Bool, true, false, ◌&&◌, List, [], ◌∷◌}
 use Rattle.std.proofs.Common.{sym, ap, ◌∙◌, inl, inr, true≢false, arith}
 use Rattle.std.proofs.lemmas.Bool.{false≢true}
 use Rattle.runs.specs.Laws.Tests.{lt_or_ge}
 use Rattle.model.specs.Bounded.{all_below, any_below, sum_below, In, all_in, any_in, sum_in}
 -- chains of two tests
 pub use Rattle.runs.specs.Laws.Tests.{and_to, and_of, or_to, or_of}
+-- what is not true is false; and a test that came out one way or the other
+pub use Rattle.std.proofs.lemmas.Bool.{false_from_ne_true as is_false, cases_Bool as true_or_false}
+pub use Rattle.std.proofs.lemmas.List.{map-append as map_append}
 
 -- ---- tests
 
@@ -26,20 +29,11 @@ and6_to a b c d e f h = let (r, z) = and_to (a && b && c && d && e) f h in let (
 pub clash {ℓ} : {A : Type ℓ} {b : Bool} → b ≡ true → b ≡ false → A
 clash p q = absurd (true≢false (sym p ∙ q))
 
--- what is not true is false
-pub is_false : (b : Bool) → ¬ (b ≡ true) → b ≡ false
-is_false true h = absurd (h refl)
-is_false false h = refl
-
 -- two tests that pass together are one
 pub same_test : (a b : Bool) → (a ≡ true → b ≡ true) → (b ≡ true → a ≡ true) → a ≡ b
 same_test true b h k = sym (h refl)
 same_test false true h k = k refl
 same_test false false h k = refl
-
-pub true_or_false : (b : Bool) → (b ≡ true) ⊎ (b ≡ false)
-true_or_false true = inl refl
-true_or_false false = inr refl
 
 -- ---- below a bound
 
@@ -193,10 +187,6 @@ pub any_in_none : {A : Type 0} (p : A → Bool) (l : List A) → ((x : A) → In
 unfolding any_in
 any_in_none p [] h = refl
 any_in_none p (y ∷ l) h = rw (h y (inl refl)) (any_in_none p l (λ x m. h x (inr m)))
-
-pub map_append : {A B : Type 0} (f : A → B) (K L : List A) → map f (K ++ L) ≡ map f K ++ map f L
-map_append f [] L = refl
-map_append {B = B} f (x ∷ K) L = ap {B = List B} (λ l. f x ∷ l) (map_append f K L)
 
 -- ---- sums over a list
 

@@ -1,11 +1,8 @@
 -- Answers of `runs::first_common`.
 use Rattle.std.proofs.Common.{◌+◌, arith}
 use Rattle.runs.specs.Laws.Steps.{steps_mod}
-use Rattle.runs.specs.Laws.Meet.{passed_start, passed_next, passed_all}
+use Rattle.runs.specs.Laws.Meet.{passed_next, passed_all}
 use Rattle.runs.proofs.first_common.Goals as goal
-
-pub loop-x-init : goal.loop-x-init
-loop-x-init c = passed_start c.args.m c.args.a c.args.c c.args.b c.requires.3
 
 pub returns-then-x-c-eq0 : goal.returns-then-x-c-eq0
 returns-then-x-c-eq0 c =
