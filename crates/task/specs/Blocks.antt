@@ -1,5 +1,5 @@
 -- MODEL 4 and 21.6: the code's blocks and the model's. Assumes nothing.
-use Rattle.std.specs.Prelude.{◌≡◌, Bool, true, false, ◌&&◌, List, ℕ, ◌<◌, eqb, Option, Some, None}
+use Rattle.std.specs.Prelude.{◌≡◌, Bool, ◌&&◌, List, ℕ, ◌<◌, eqb, Option, Some, None}
 use Rattle.model.specs.Limits.{max_kind, reach}
 use Rattle.model.specs.Kinds.{number_of}
 use Rattle.model.specs.Tasks as model
@@ -27,11 +27,6 @@ pub record SameExtent (e : Extent) (m : model.Block) : Type 0 where
 abbrev pub Reads : Option Block → model.Block → Type 0
 Reads (Some b) m = Same b m
 Reads None m = max_kind < m.kind
-
--- MODEL 4.6 and 4.8 to 4.10: the same of a block that has to be one of a well-formed task by itself
-abbrev pub ReadsSolid : Option Block → model.Block → Type 0
-ReadsSolid (Some b) m = Same b m × (model.block_ok m ≡ true)
-ReadsSolid None m = model.block_ok m ≡ false
 
 -- MODEL 4.5: column and bottom of the first block are 0
 unfoldable pub starts : List ℕ → Bool

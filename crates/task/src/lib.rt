@@ -6,7 +6,7 @@ ghost use Rattle.std.specs.Prelude.{◌≡◌, true, false, ◌+◌, ◌*◌, �
 ghost use Rattle.model.specs.Limits.{block_size, max_kind, max_blocks, words};
 ghost use Rattle.model.specs.Columns.{height, kind_C};
 ghost use Rattle.model.specs.Tasks.{lifted, block, blocks, sized, block_ok, follows, well_formed, step};
-ghost use Rattle.task.specs.Blocks.{seen, Same, SameExtent, Reads, ReadsSolid, starts};
+ghost use Rattle.task.specs.Blocks.{seen, Same, SameExtent, Reads, starts};
 
 use model::Kind;
 use words::get16;
@@ -64,6 +64,7 @@ impl Block {
     fn is_solid(self) -> bool
         ensures { result ≡ block_ok (seen self) }
     {
+        // `as`: a constant that fits. std has no From for it.
         self.column < model::MAX_COLUMNS as u32
             && self.low < self.high
             && self.high <= 2 * model::REACH
@@ -206,38 +207,26 @@ fn starts_at_zero(task: &[u8]) -> bool
         && byte_or_zero(task, model::BLOCK_BOTTOM_AT + 1) == 0
 }
 
-// Block i of a task, where by itself it is one of a well-formed task.
-#[tactic(auto, using(crate::specs::Laws::Blocks::bad_block, crate::specs::Laws::Blocks::tested))]
-fn solid_block(task: &[u8], i: usize) -> Option<Block>
-    requires { block_size * i + block_size ≤ length task.now }
-    ensures { ReadsSolid result (block task.now i) }
-{
-    read_block(task, i).filter(|block| block.is_solid())
-}
-
 // MODEL 4.4: whether a task is well-formed.
-#[tactic(auto, unfolding(model::specs::Tasks::blocks, model::specs::Tasks::well_formed, crate::specs::Blocks::starts, model::specs::Bounded::all_below))]
+#[tactic(auto, using(crate::specs::Laws::Tasks::ill_start, crate::specs::Laws::Tasks::all_tested), unfolding(model::specs::Tasks::blocks))]
 pub fn well_formed(task: &[u8]) -> bool
     ensures { result ≡ well_formed task.now }
 {
     if !starts_at_zero(task) {
         return false;
     }
-    let count = task.len() / model::BLOCK_SIZE;
-    if count == 0 {
-        return true;
-    }
-    let Some(mut last) = solid_block(task, 0) else {
-        return false;
-    };
-    for i in 1..count {
-        let Some(next) = solid_block(task, i) else {
+    let mut last: Option<Block> = None;
+    for i in 0..task.len() / model::BLOCK_SIZE {
+        let Some(next) = read_block(task, i) else {
             return false;
         };
-        if !next.follows(last) {
+        if !next.is_solid() {
             return false;
         }
-        last = next;
+        if last.is_some_and(|last| !next.follows(last)) {
+            return false;
+        }
+        last = Some(next);
     }
     true
 }
@@ -247,9 +236,10 @@ pub fn well_formed(task: &[u8]) -> bool
 pub fn step(task: &[u8]) -> u32
     ensures { result ≡ step task.now }
 {
+    let count = task.len() / model::BLOCK_SIZE;
     let mut logic = false;
     let mut other = false;
-    for i in 0..task.len() / model::BLOCK_SIZE {
+    for i in 0..count {
         if task[model::BLOCK_SIZE * i + model::BLOCK_KIND_AT] == u8::from(Kind::C) {
             logic = true;
         } else {
