@@ -2,9 +2,9 @@
 // The model's definitions are those of model/specs/Tasks.antt; specs/ here ties the code's blocks to the model's.
 #![tactic(auto)]
 
-ghost use Rattle.std.specs.Prelude.{◌≡◌, true, false, ◌+◌, ◌*◌, ◌≤◌, ◌<◌, ◌↔◌, length, get_or, eqb, IfOk, IsErrOf};
+ghost use Rattle.std.specs.Prelude.{◌≡◌, true, false, ◌+◌, ◌*◌, ◌≤◌, ◌<◌, ◌↔◌, length, get_or, IfOk, IsErrOf};
 ghost use Rattle.model.specs.Limits.{block_size, max_kind, max_blocks, words};
-ghost use Rattle.model.specs.Columns.{height, kind_C};
+ghost use Rattle.model.specs.Columns.{height};
 ghost use Rattle.model.specs.Tasks.{lifted, block, blocks, sized, block_ok, follows, well_formed, step};
 ghost use Rattle.task.specs.Blocks.{seen, Same, SameExtent, Reads, starts};
 
