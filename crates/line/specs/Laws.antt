@@ -2,7 +2,8 @@
 pub mod Fields
 pub mod Numbers
 pub mod Calls
-pub mod Block
 pub mod Device
+pub mod Texts
+pub mod Block
 pub mod Print
 pub mod Reading

@@ -1,14 +1,14 @@
 // MODEL 17: a sheet line as one of six calls.
-ghost use Rattle.std.specs.Prelude.{◌≡◌, [], ◌∷◌};
-ghost use Rattle.model.specs.Sheet.{provided, call_of, sheet_line};
-ghost use Rattle.line.specs.Calls.{call_said, said, Says, kind_unused, only_task, none_used, block_said};
+ghost use Rattle.std.specs.Prelude.{◌≡◌};
+ghost use Rattle.model.specs.Sheet.{sheet_line};
+ghost use Rattle.line.specs.Calls.{said, Says, say, read_said, six_fields, kind_unused, only_task, none_used, block_said};
 
-use crate::fields::{Height, Natural, One};
-use crate::{MAX_COLUMN_FIELD, MAX_LINE, MAX_TASK_FIELD, fields};
-use model::{Kind, KindRead};
+use crate::MAX_LINE;
+use crate::fields::{byte, kind, number};
+use model::Kind;
 
 // MODEL 17.8 and 21.5: a block of the draft, as a line gives it.
-#[derive(Drop)]
+#[derive(Clone, Copy, Debug, PartialEq, Eq)]
 pub struct BlockCall {
     pub column: u8,
     pub kind: Kind,
@@ -17,7 +17,7 @@ pub struct BlockCall {
 }
 
 // MODEL 17.8: what a sheet line asks for.
-#[derive(Drop)]
+#[derive(Clone, Copy, Debug, PartialEq, Eq)]
 pub enum Call {
     Block(BlockCall),
     Empty,
@@ -27,129 +27,104 @@ pub enum Call {
     Release { task: u16 },
 }
 
-// MODEL 17.9: what reading a line answers.
-#[derive(Drop)]
-pub enum Line {
-    Does(Call),
-    Malformed,
+// MODEL 17.7: the six fields of a sheet line. Their types have the limits of the fields.
+#[derive(Clone, Copy)]
+struct Fields {
+    letter: u8,
+    task: u16,
+    column: u8,
+    kind: u8,
+    bottom: i16,
+    top: i16,
 }
 
-// The call, if the fields that it leaves unused are unused.
-fn provided(unused: bool, call: Call) -> Line
-    ensures { said result ≡ provided unused (call_said call) }
-{
-    if unused {
-        return Line::Does(call);
+impl Fields {
+    // A field that is missing or at fault ends the reading (MODEL 21.5), and so does a seventh.
+    fn read(line: &[u8]) -> Option<Fields>
+        ensures { read_said result ≡ six_fields line.now }
+    {
+        let mut fields = line.split(|byte| *byte == b' ');
+        let read = Fields {
+            letter: fields.next().and_then(byte)?,
+            task: fields.next().and_then(number)?,
+            column: fields.next().and_then(number)?,
+            kind: fields.next().and_then(byte)?,
+            bottom: fields.next().and_then(number)?,
+            top: fields.next().and_then(number)?,
+        };
+        fields.next().is_none().then_some(read)
     }
-    Line::Malformed
-}
 
-// Whether kind and top are unused.
-fn no_kind(kind: u8, top: i16) -> bool
-    ensures { result ≡ kind_unused kind top }
-{
-    if kind != b'-' {
-        return false;
+    // Whether kind and top are unused.
+    #[tactic(auto, using(crate::specs::Laws::Calls::nought_bits), unfolding(model::specs::Sheet::is))]
+    fn no_kind(self) -> bool
+        ensures { result ≡ kind_unused self }
+    {
+        self.kind == b'-' && self.top == 0
     }
-    top == 0
-}
 
-// Whether all fields but the task are unused.
-fn only_task(column: u8, kind: u8, bottom: i16, top: i16) -> bool
-    ensures { result ≡ only_task column kind bottom top }
-{
-    if column != 0 {
-        return false;
+    // Whether all fields but the task are unused.
+    #[tactic(auto, using(crate::specs::Laws::Calls::nought_bits), unfolding(model::specs::Sheet::is))]
+    fn only_task(self) -> bool
+        ensures { result ≡ only_task self }
+    {
+        self.column == 0 && self.kind == b'-' && self.bottom == 0 && self.top == 0
     }
-    if kind != b'-' {
-        return false;
-    }
-    if bottom != 0 {
-        return false;
-    }
-    top == 0
-}
 
-// Whether all fields are unused.
-fn no_field(task: u16, column: u8, kind: u8, bottom: i16, top: i16) -> bool
-    ensures { result ≡ none_used task column kind bottom top }
-{
-    if task != 0 {
-        return false;
+    // Whether all fields are unused.
+    fn no_field(self) -> bool
+        ensures { result ≡ none_used self }
+    {
+        self.task == 0 && self.only_task()
     }
-    only_task(column, kind, bottom, top)
-}
 
-// The block call: it has a kind, and no task.
-fn block(task: u16, column: u8, letter: u8, bottom: i16, top: i16) -> Line
-    ensures { said result ≡ block_said task column letter bottom top }
-{
-    let KindRead::Known(kind) = fields::kind_letter(letter) else {
-        return Line::Malformed;
-    };
-    if task != 0 {
-        return Line::Malformed;
+    // The block call: it has a kind, and no task.
+    #[tactic(auto, using(crate::specs::Laws::Calls::said_provided), unfolding(crate::specs::Calls::block_said))]
+    fn block(self) -> Option<Call>
+        ensures { said result ≡ block_said self }
+    {
+        let kind = kind(self.kind)?;
+        (self.task == 0).then_some(Call::Block(BlockCall {
+            column: self.column,
+            kind,
+            bottom: self.bottom,
+            top: self.top,
+        }))
     }
-    Line::Does(Call::Block(BlockCall {
-        column: column,
-        kind: kind,
-        bottom: bottom,
-        top: top,
-    }))
-}
 
-// MODEL 17.8: the call of a letter, if its fields have its form.
-fn meaning(letter: u8, task: u16, column: u8, kind: u8, bottom: i16, top: i16) -> Line
-    ensures { said result ≡ call_of (letter ∷ []) task column (kind ∷ []) bottom top }
-{
-    match letter {
-        b'B' => block(task, column, kind, bottom, top),
-        b'N' => provided(no_field(task, column, kind, bottom, top), Call::Empty),
-        b'L' => provided(no_field(task, column, kind, bottom, top), Call::List),
-        b'C' => provided(no_field(task, column, kind, bottom, top), Call::Choose),
-        b'P' => provided(
-            no_kind(kind, top),
-            Call::Place {
-                task: task,
-                column: column,
-                bottom: bottom,
-            },
-        ),
-        b'R' => provided(
-            only_task(column, kind, bottom, top),
-            Call::Release { task: task },
-        ),
-        _ => Line::Malformed,
+    // MODEL 17.8: the call of the letter, if the fields that it leaves unused are unused.
+    #[tactic(auto, using(crate::specs::Laws::Calls::said_provided), unfolding(model::specs::Sheet::call_of, model::specs::Sheet::is, model::specs::Sheet::kind_field, crate::specs::Calls::block_said))]
+    fn call(self) -> Option<Call>
+        ensures { said result ≡ say self }
+    {
+        let Fields {
+            task,
+            column,
+            bottom,
+            ..
+        } = self;
+        match self.letter {
+            b'B' => self.block(),
+            b'N' => self.no_field().then_some(Call::Empty),
+            b'L' => self.no_field().then_some(Call::List),
+            b'C' => self.no_field().then_some(Call::Choose),
+            b'P' => self.no_kind().then_some(Call::Place {
+                task,
+                column,
+                bottom,
+            }),
+            b'R' => self.only_task().then_some(Call::Release { task }),
+            _ => None,
+        }
     }
 }
 
-// MODEL 17.9: the call of a sheet line, without its newline. A field that is at fault ends the reading (MODEL 21.5).
-pub fn read(line: &[u8]) -> Line
+// MODEL 17.9: the call of a sheet line, without its newline. A malformed line has none.
+pub fn read(line: &[u8]) -> Option<Call>
     ensures { Says result (sheet_line line.now) }
 {
     if MAX_LINE < line.len() {
-        return Line::Malformed;
+        return None;
     }
-    let One::Byte(letter, a) = fields::byte_field(line, 0) else {
-        return Line::Malformed;
-    };
-    let Natural::Value(task, b) = fields::natural_field(line, a, MAX_TASK_FIELD) else {
-        return Line::Malformed;
-    };
-    let Natural::Value(column, c) = fields::natural_field(line, b, MAX_COLUMN_FIELD) else {
-        return Line::Malformed;
-    };
-    let One::Byte(kind, d) = fields::byte_field(line, c) else {
-        return Line::Malformed;
-    };
-    let Height::Value(bottom, e) = fields::height_field(line, d) else {
-        return Line::Malformed;
-    };
-    let Height::Value(top, f) = fields::height_field(line, e) else {
-        return Line::Malformed;
-    };
-    if f <= line.len() {
-        return Line::Malformed;
-    }
-    meaning(letter, task as u16, column as u8, kind, bottom, top)
+    Fields::read(line)?.call()
 }

@@ -1,25 +1,13 @@
--- Answers of `line::fields::end_before`.
-use mathlib.Core.Path.{◌≡◌}
-use native.Mathlib.Omega.{arith}
-use lib.ListN.{length, drop}
-use Rattle.line.specs.Fields.{until}
-use Rattle.line.specs.Laws.Fields.{until_stop, until_step, until_none}
+-- `line::fields::end_before` meets its contract. Assumes nothing.
+use Rattle.std.proofs.Common.{rules, tests, eqb, arith, take_all, length-drop}
+use Rattle.std.proofs.lemmas.Iterator.{YieldsList-from_slice}
+use Rattle.std.proofs.lemmas.Iterator.Search.{position_from_yields_List}
+use Rattle.line.specs.Laws.Fields.{until_found, part_end}
 use Rattle.line.proofs.fields.end_before.Goals as goal
-
-pub returns-then-text-i : goal.returns-then-text-i
-returns-then-text-i c =
-    let t = c in
-    let a = t.args in
-    (omega (arith, until_stop a.text.now t.loop-i.i t.loop-i-test.true a.byte c.if-text-i.true), omega arith)
-
-pub loop-i-preserved : goal.loop-i-preserved
-loop-i-preserved c =
-    let t = c in
-    let a = t.args in
-    omega (arith, until_step a.text.now t.loop-i.i t.loop-i-test.true a.byte c.if-text-i.false)
 
 pub returns : goal.returns
 returns c =
-    let a = c.args in
-    let e : length (until a.byte (drop c.loop-i.i a.text.now)) ≡ 0 = rw (until_none a.byte a.text.now c.loop-i.i c.loop-i-test.false) in
-    (omega arith, omega arith)
+    let found = position_from_yields_List (λ x. eqb x c.args.byte) _ _ c.position.result c.position.ensures.ran (YieldsList-from_slice _ c.iter.ensures.rest) (λ x b q k. search (rules, tests)) in
+    let e = rw (part_end c.args.text.now c.args.at) at (until_found c.args.byte _ found) in
+    let u = rw (part_end c.args.text.now c.args.at) at c.unwrap_or.ensures in
+    (omega arith, omega (arith, length-drop c.args.at c.args.text.now))

@@ -1,5 +1,0 @@
--- `line::device::is_first_names` meets its contract: the text that it compares with is the model's. Assumes nothing.
-use Rattle.line.proofs.device.is_first_names.Goals as goal
-
-pub returns : goal.returns
-returns c = c.equal.ensures
