@@ -3,7 +3,6 @@ pub mod Fields
 pub mod Numbers
 pub mod Calls
 pub mod Device
-pub mod Texts
 pub mod Block
 pub mod Print
 pub mod Reading

@@ -31,7 +31,7 @@ pub fn is_second_names(line: &[u8]) -> bool
 }
 
 // MODEL 17.7: the kinds of a field: one letter or more, each the letter of a kind.
-#[tactic(auto, using(crate::specs::Laws::Device::no_letter, crate::specs::Laws::Device::letters_push, crate::specs::Laws::Device::letters_bad, crate::specs::Laws::Device::all_letters), unfolding(model::specs::Sheet::kind_letters))]
+#[tactic(auto, using(crate::specs::Laws::Device::letters), unfolding(model::specs::Sheet::kind_letters))]
 fn kinds(field: &[u8]) -> Option<ArrayVec<u8, MAX_LINE>>
     requires { length field.now ≤ max_line }
     ensures { items_said result ≡ kinds_field field.now }

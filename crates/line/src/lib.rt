@@ -10,17 +10,5 @@ pub mod print; // lines of output
 // MODEL 2.10: the most bytes of a line, without its newline.
 pub const MAX_LINE: usize = 80;
 
-// MODEL 17.7: the greatest task number, number of rows and column that a field may have.
-pub const MAX_TASK_FIELD: u32 = 65535;
-
-pub const MAX_ROWS_FIELD: u32 = 65535;
-
-pub const MAX_COLUMN_FIELD: u32 = 255;
-
-// MODEL 17.7: the least and the greatest bottom or top that a field may have.
-pub const MIN_HEIGHT_FIELD: i32 = -32768;
-
-pub const MAX_HEIGHT_FIELD: i32 = 32767;
-
 // The bytes that one line of output needs at most.
 pub const LINE_ROOM: usize = 80;

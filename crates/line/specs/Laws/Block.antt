@@ -1,11 +1,11 @@
 -- MODEL 18.10: a block call's bytes are read back as the block that it says. Assumes nothing.
-use Rattle.std.specs.Prelude.{ℕ, suc, ◌+◌, ◌*◌, ◌/◌, ◌%◌, ◌≤◌, ◌<◌, ◌≡◌, List, [], ◌∷◌, ◌++◌, length, set, ℤ, pos, negsuc, nat_abs, ◌+ℤ◌}
+use Rattle.std.specs.Prelude.{ℕ, ◌+◌, ◌*◌, ◌/◌, ◌%◌, ◌≤◌, ◌<◌, ◌≡◌, List, length, ℤ, pos, negsuc}
 use Rattle.std.proofs.Math.Path.{refl, sym, ap}
-use Rattle.std.proofs.Common.{◌∙◌, add-zero, SFits, to_z, of_z, le-ltb}
+use Rattle.std.proofs.Common.{◌∙◌, add-zero, SFits, to_z, of_z}
 use native.Mathlib.Omega.{arith}
 use Rattle.std.proofs.Math.ListN.{get_or}
 use Rattle.std.specs.Int.Signed.{mag}
-use mir.Syntax.{w16, w32}
+use mir.Syntax.{w16}
 use Rattle.std.proofs.Math.Facts.{to_z-of_z}
 use Rattle.model.specs.Limits.{block_size, block_bottom_at, block_top_at}
 use Rattle.model.specs.Tasks.{word, lifted, block}
@@ -13,33 +13,14 @@ use Rattle.model.specs.Kinds.{number_of}
 use Rattle.model.specs.Record.{bytes16}
 use Rattle.model.specs.Program.{block_bytes}
 use Rattle.model.specs.Parts.{splice}
-use Rattle.model.proofs.Laws.Parts.{part_splice, get_d_part, set_two, splice_more}
+use Rattle.model.proofs.Laws.Parts.{part_splice, get_d_part}
 use Rattle.line.specs.Block.{call_bytes}
 use Rattle.line.specs.declared.call.BlockCall.{BlockCall}
 
--- ---- two's complement
-
--- `(z + 65536) % 65536`, as the code reckons it
-pub up : (z : ℤ) → mag z < 32768 → (z +ℤ pos 65536 ≡ pos (nat_abs (z +ℤ pos 65536))) × (nat_abs (z +ℤ pos 65536) < 98304) × (nat_abs (z +ℤ pos 65536) % 65536 ≡ of_z w16 z)
-up (pos n) h = (refl, omega arith, omega arith)
-up (negsuc n) h = rw (le-ltb 65536 (suc n) (omega arith)) (refl, omega arith, omega arith)
-
-pub up_fits : (z : ℤ) → mag z < 32768 → SFits w32 (z +ℤ pos 65536)
-up_fits z h = let u = up z h in rw u.0 (record { sfits = omega arith })
-
-pub bits_small : (z : ℤ) → mag z < 32768 → of_z w16 z < 65536
+-- two's complement has two bytes
+bits_small : (z : ℤ) → mag z < 32768 → of_z w16 z < 65536
 bits_small (pos n) h = omega arith
 bits_small (negsuc n) h = omega arith
-
--- ---- six stores
-
-pub six_stores : (r : List ℕ) (at : ℕ) (b : BlockCall) → at + block_size ≤ length r
-    → splice (splice (set (set r at b.column) (at + 1) (number_of b.kind)) (at + 2) 2 (bytes16 (of_z w16 b.bottom))) (at + 4) 2 (bytes16 (of_z w16 b.top)) ≡ splice r at block_size (call_bytes b)
-unfolding block_bytes bytes16
-six_stores r at b h =
-    let head = b.column ∷ number_of b.kind ∷ [] in
-    rw (set_two r at b.column (number_of b.kind) (omega arith), splice_more r at 2 2 head (bytes16 (of_z w16 b.bottom)) (omega arith) refl)
-    (splice_more r at 4 2 (head ++ bytes16 (of_z w16 b.bottom)) (bytes16 (of_z w16 b.top)) (omega arith) refl)
 
 -- ---- read back
 

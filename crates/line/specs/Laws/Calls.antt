@@ -1,5 +1,5 @@
 -- MODEL 17.6 to 17.9: a sheet line by its six fields, each as it is read. Assumes nothing.
-use Rattle.std.specs.Prelude.{ℕ, zero, suc, ◌+◌, ◌^◌, ◌≤◌, ◌<◌, ◌≡◌, ◌⊎◌, refl, Bool, not, true, false, cond, ◌&&◌, List, [], ◌∷◌, length, get_or, leb, eqb, ℤ, pos, negsuc, Option, Some, None, Result, MatchOption, is_some}
+use Rattle.std.specs.Prelude.{ℕ, suc, ◌+◌, ◌^◌, ◌≤◌, ◌<◌, ◌≡◌, ◌⊎◌, refl, Bool, not, true, false, cond, ◌&&◌, List, [], ◌∷◌, length, get_or, eqb, ℤ, pos, negsuc, Option, Some, None, Result, MatchOption, is_some}
 use Rattle.std.specs.Bool.{then_some}
 use Rattle.runs.specs.Laws.Tests.{lt_or_ge}
 use Rattle.line.specs.declared.call.Fields.{Fields}
@@ -11,7 +11,7 @@ use Rattle.std.specs.Int.{Width}
 use denote.Ref.{Bor}
 use Rattle.signed.proofs.Signed.{zero_bits}
 use Rattle.model.specs.Limits.{max_line, max_task_field, max_column_field}
-use Rattle.model.specs.Sheet.{SheetCall, with_some, provided, fields, is, nought, natural, number, natural_field, height_field, kind_field, call_of, six, sheet_line}
+use Rattle.model.specs.Sheet.{SheetCall, with_some, provided, fields, is, nought, number, natural_field, height_field, kind_field, call_of, six, sheet_line}
 use Rattle.line.specs.Fields.{one_byte, number_said, Narrowed}
 use Rattle.line.specs.Calls.{call_said, said, Says, say, read_said, six_fields}
 use Rattle.line.specs.Laws.Fields.{Taken}

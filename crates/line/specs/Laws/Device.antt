@@ -1,7 +1,7 @@
 -- MODEL 17.6 and 17.7: the line of rows and kinds by its two fields, each as it is read. Assumes nothing.
 use Rattle.std.specs.Prelude.{ℕ, zero, suc, ◌+◌, ◌≤◌, ◌<◌, ◌≡◌, ◌⊎◌, refl, Bool, true, false, not, cond, ◌&&◌, List, [], ◌∷◌, ◌++◌, length, take, get_or, leb, eqb, Option, Some, None, MatchOption, is_some}
 use Rattle.std.specs.Bool.{then_some}
-use Rattle.std.proofs.Common.{sym, ap, ◌∙◌, inl, inr, arith, eq-eqb, ne_eqb, le-leb, take_all}
+use Rattle.std.proofs.Common.{◌∙◌, inl, inr, arith, eq-eqb, ne_eqb, le-leb, take_all}
 use Rattle.std.proofs.lemmas.List.{take_more}
 use Rattle.std.proofs.lemmas.Bool.{lt-leb}
 use Rattle.std.proofs.lemmas.List.{get_or_past}
@@ -61,6 +61,9 @@ pub no_letter : (l : List ℕ) → length l ≡ 0 → kinds_field l ≡ none
 unfolding kinds_field
 no_letter [] h = refl
 no_letter (x ∷ l) h = absurd (omega arith)
+
+-- the letters of a field, one after the other
+pub ruleset letters = (no_letter, letters_push, letters_bad, all_letters)
 
 -- the kinds of field k, as they are read
 pub kinds_here : {fs : List (List ℕ)} {k : ℕ} {r : Option (Bor (List ℕ))} {l' : List (List ℕ)} → Taken fs k r l' → (o : Option (ArrayVec ℕ)) → MatchOption r (o ≡ None) (λ x. items_said o ≡ kinds_field x.now)

@@ -1,6 +1,6 @@
 -- MODEL 17.7: a number as a type has it that has its field's limits. Assumes nothing.
-use Rattle.std.specs.Prelude.{ℕ, zero, suc, ◌+◌, ◌^◌, ◌≤◌, ◌<◌, ◌≡◌, refl, Bool, true, false, cond, ◌&&◌, List, [], ◌∷◌, leb, ltb, eqb, ℤ, pos, negsuc, Option, Some, None, Result, Ok, Err, FitsSigned, unsigned_abs}
-use Rattle.std.proofs.Common.{sym, ap, ◌∙◌, arith, w16, eqb-true, le-leb, leb-true, lt-ltb, le-ltb, ltb-true, ltb-false}
+use Rattle.std.specs.Prelude.{ℕ, zero, suc, ◌+◌, ◌^◌, ◌<◌, ◌≡◌, refl, Bool, true, false, cond, ◌&&◌, List, [], ◌∷◌, leb, ltb, eqb, ℤ, pos, negsuc, Option, Some, None, Result, Ok, Err, FitsSigned, unsigned_abs}
+use Rattle.std.proofs.Common.{sym, ap, ◌∙◌, arith, w16, le-leb, leb-true, ltb-false}
 use Rattle.std.proofs.lemmas.Bool.{lt-leb}
 use Rattle.std.proofs.Math.Option.{Option as Read, none, some}
 use Rattle.std.specs.Int.{FitsUnsignedBits}
@@ -10,7 +10,7 @@ use Rattle.std.specs.Result.{OkIff, result_ok}
 use Rattle.model.specs.Limits.{max_height_field}
 use Rattle.model.specs.Sheet.{with_some, provided, natural, negated, number, natural_field, height_field}
 use Rattle.line.specs.Fields.{small, number_said, Narrowed}
-use Rattle.line.specs.Laws.Texts.{number_of_natural}
+use Rattle.line.specs.Laws.Reading.{number_of_natural}
 
 -- what was read, as the model has it
 abbrev pub read : {A : Type 0} → Option A → Read A

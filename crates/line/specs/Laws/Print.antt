@@ -74,14 +74,18 @@ shown_plain (negsuc n) e = cc
 appends : AppendsLastDigit digits
 appends = record { one = step_small; more = step_last }
 
-shown_decimal : (n : ℕ) → n < 4294967296 → shown (pos n) ≡ decimal n
+shown_decimal : (n : ℕ) → n < tens 10 → shown (pos n) ≡ decimal n
 unfolding shown
 shown_decimal n h = digits_more 9 n (omega arith) ∙ decimal_from_appends digits appends 10 n (omega arith) (length-decimal-le 10 n (omega arith) (omega arith) (omega arith))
 
-shown_signed : (z : ℤ) → mag z < 2147483648 → shown z ≡ signed_decimal z
+pub shown_signed : (z : ℤ) → nat_abs z < tens 10 → shown z ≡ signed_decimal z
 unfolding shown
-shown_signed (pos n) h = shown_decimal n (omega arith)
-shown_signed (negsuc n) h = ap (λ l. code "-" ∷ l) (shown_decimal (suc n) (omega arith))
+shown_signed (pos n) h = shown_decimal n h
+shown_signed (negsuc n) h = ap (λ l. code "-" ∷ l) (shown_decimal (suc n) h)
+
+below : (z : ℤ) → mag z < 2147483648 → nat_abs z < tens 10
+below (pos n) h = omega arith
+below (negsuc n) h = omega arith
 
 -- `-1 - z` of a negative z
 pub flipped : (z : ℤ) → lt_z z (pos 0) ≡ true → (negsuc 0 -ℤ z ≡ pos (mag z)) × (nat_abs z ≡ mag z + 1)
@@ -144,4 +148,5 @@ module _ (line : ℕ) (answer : ℤ) (column first step last : ℕ) where
       → output_line line answer column first step last
       ≡ decimal line ++ (32 ∷ []) ++ signed_decimal answer ++ (32 ∷ []) ++ decimal column ++ (32 ∷ []) ++ decimal first ++ (32 ∷ []) ++ decimal step ++ (32 ∷ []) ++ decimal last ++ (10 ∷ [])
   unfolding output_line
-  line_decimal h1 h2 h3 h4 h5 h6 = rw (shown_decimal line h1, shown_signed answer h2, shown_decimal column h3, shown_decimal first h4, shown_decimal step h5, shown_decimal last h6)
+  line_decimal h1 h2 h3 h4 h5 h6 =
+      rw (shown_decimal line (omega arith), shown_signed answer (below answer h2), shown_decimal column (omega arith), shown_decimal first (omega arith), shown_decimal step (omega arith), shown_decimal last (omega arith))

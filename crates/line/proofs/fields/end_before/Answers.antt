@@ -1,5 +1,5 @@
 -- `line::fields::end_before` meets its contract. Assumes nothing.
-use Rattle.std.proofs.Common.{rules, tests, eqb, arith, take_all, length-drop}
+use Rattle.std.proofs.Common.{rules, tests, eqb, arith, length-drop}
 use Rattle.std.proofs.lemmas.Iterator.{YieldsList-from_slice}
 use Rattle.std.proofs.lemmas.Iterator.Search.{position_from_yields_List}
 use Rattle.line.specs.Laws.Fields.{until_found, part_end}

@@ -2,7 +2,7 @@
 use Rattle.std.proofs.Common.{rules, ◌≡◌, sym, SFits, w32}
 use Rattle.std.specs.Str.{IsUtf8}
 use Rattle.std.proofs.lemmas.Int.{to_z-of_z}
-use Rattle.line.specs.Laws.Texts.{no_text, no_number, other_form, said_is, same_text, other_text}
+use Rattle.line.specs.Laws.Reading.{no_text, no_number, other_form, said_is, same_text, other_text}
 use Rattle.line.proofs.fields.number.Goals as goal
 
 pub returns-in_err-ok : goal.returns-in_err-ok

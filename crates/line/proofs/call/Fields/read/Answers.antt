@@ -81,6 +81,6 @@ returns c =
     let low = sym (height_here bottom _ _ c.and_then-5.ensures) ∙ ap read c.in_ok-and_then-5.was in
     let high = sym (height_here top _ _ c.and_then-6.ensures) ∙ ap read c.in_ok-and_then-6.was in
     let six = six_is (fields l) (sym (byte_here letter c.and_then.ensures) ∙ c.in_ok-and_then.was) (sym (natural_here task 16 max_task_field refl (omega arith) _ _ c.and_then-2.ensures) ∙ ap read c.in_ok-and_then-2.was)
-      (sym (natural_here column 8 max_column_field refl (omega arith) _ _ c.and_then-3.ensures) ∙ ap read c.in_ok-and_then-3.was) (sym (byte_here kind c.and_then-4.ensures) ∙ c.in_ok-and_then-4.was) low high in
+    (sym (natural_here column 8 max_column_field refl (omega arith) _ _ c.and_then-3.ensures) ∙ ap read c.in_ok-and_then-3.was) (sym (byte_here kind c.and_then-4.ensures) ∙ c.in_ok-and_then-4.was) low high in
     rw (c.then_some.ensures, to_z-of_z w16 c.in_ok-and_then-5.field-0 (search rules), to_z-of_z w16 c.in_ok-and_then-6.field-0 (search rules))
     (six_done l _ c.is_none.result end c.is_none.ensures (there (fields l) 5 high) six)
