@@ -7,7 +7,6 @@ ghost use Rattle.model.specs.Program.{first, second, third, lines};
 ghost use Rattle.desk.specs.Input.{Ends, Opens, rest_of, Begins};
 
 use crate::MALFORMED_LINE;
-use line::device::DeviceRead;
 
 // What the first three lines lead to: where the fourth starts, or the line that ends the program and its refusal.
 #[derive(Drop)]
@@ -28,11 +27,10 @@ pub fn line_end(input: &[u8], at: usize) -> usize
 fn new_card(line: &[u8], card: &mut [u8]) -> i32
     ensures { Opens (device_line line.now) card.old result card.new }
 {
-    let mut kinds = [0u8; line::MAX_LINE];
-    let DeviceRead::Device { rows, count } = line::device::device_line(line, &mut kinds) else {
+    let Some(device) = line::device::device_line(line) else {
         return MALFORMED_LINE;
     };
-    card::card_new(card, rows, &kinds[..count])
+    card::card_new(card, device.rows, device.kinds.as_slice())
 }
 
 // A malformed or missing line.

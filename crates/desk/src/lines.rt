@@ -6,7 +6,7 @@ ghost use Rattle.desk.specs.Desk.{desk_of, Ready, Leaves};
 
 use crate::blocks::{Left, leave};
 use crate::{MALFORMED_LINE, blocks, calls, output, ranges};
-use line::call::{Call, Line};
+use line::call::Call;
 
 // What a call does, with the draft's first `used` bytes. What is printed stands in `out`, from its first byte on.
 fn on_call(
@@ -54,7 +54,7 @@ pub fn on_line(
     requires { Ready card.old draft.old used listing.old out.old }
     ensures { Leaves (on_line number (desk_of card.old (take used draft.old)) line.now) card.new draft.new result.used out.new result.printed }
 {
-    let Line::Does(call) = line::call::read(line) else {
+    let Some(call) = line::call::read(line) else {
         return leave(used, output::say(out, number, MALFORMED_LINE));
     };
     on_call(card, draft, used, number, call, listing, out)

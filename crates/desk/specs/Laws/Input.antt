@@ -1,7 +1,7 @@
 -- Where lines end, and what the first three lead to. Assumes nothing.
 use Rattle.std.specs.Prelude.{ℕ, suc, ◌+◌, ◌-◌, ◌≤◌, ◌<◌, ◌≡◌, refl, Bool, true, false, cond, List, [], ◌∷◌, eqb, ℤ, pos, negsuc, length, take, drop}
 use Prim.Native.Char.{code}
-use Rattle.std.proofs.Common.{sym, ap, ap₂, ◌∙◌, arith, drop_of_length-le, length-drop, length-append, drop-drop, take_at, eq-eqb, eqb-true}
+use Rattle.std.proofs.Common.{sym, ap, ap₂, ◌∙◌, arith, drop_of_length-le, length-drop, drop-drop, eq-eqb, eqb-true}
 use Rattle.std.proofs.Math.Option.{Option, none, some}
 use Rattle.std.specs.Int.Signed.{lt_z}
 use Rattle.model.specs.Limits.{record_size}
@@ -15,7 +15,8 @@ use Rattle.model.specs.Columns.{Device, device_ok}
 use Rattle.model.specs.OnRecord.{new}
 use Rattle.line.specs.Fields.{until}
 use Rattle.line.specs.Device.{answer_of, Reads}
-use Rattle.line.specs.declared.device.DeviceRead.TheVariants as rows
+use Rattle.line.specs.declared.device.DeviceLine.{DeviceLine}
+use Rattle.std.specs.Prelude.{Some, None}
 use Rattle.card.specs.Leaves.{Changes}
 use Rattle.desk.specs.declared.input.Begun.{Begun}
 use Rattle.desk.specs.declared.input.Begun.TheVariants as begun
@@ -69,22 +70,18 @@ ends s at end h q e =
 -- ---- the second line
 
 -- a malformed line has the line reader's number
-pub opens_none : (o : Option Device) {lent kinds : List ℕ} (r : List ℕ) → Reads o rows.Malformed lent kinds → Opens o r (answer_of rows.Malformed) r
+pub opens_none : (o : Option Device) (r : List ℕ) → Reads o None → Opens o r (answer_of None) r
 opens_none none r h = h.answer_is
-opens_none (some d) r h = let z : ◌≡◌ {A = ℕ} 0 1 = cc h.rows_is in absurd (omega arith)
+opens_none (some d) r h = let e = h.device_is in let z : ◌≡◌ {A = ℕ} 0 1 = cc in absurd (omega arith)
 
--- the kinds stand in front of the lent bytes
-pub count_fits : (o : Option Device) {n k : ℕ} {lent kinds : List ℕ} → Reads o (rows.Device n k) lent kinds → k ≤ length kinds
-count_fits none h = let z : ◌≡◌ {A = ℕ} 0 1 = cc h.rows_is in absurd (omega arith)
-count_fits (some d) {n} {k} {lent} h = let m : length d.kinds ≡ k = cc h.rows_is in rw h.kinds_is (omega (arith, length-append d.kinds (drop (length d.kinds) lent)))
-
-pub opens_some : (o : Option Device) {n k : ℕ} {lent kinds : List ℕ} (r : List ℕ) {r' : List ℕ} {a : ℤ} → Reads o (rows.Device n k) lent kinds
-    → Changes (new r n (take k kinds)) a r' → Opens o r a r'
-opens_some none r x h = let z : ◌≡◌ {A = ℕ} 0 1 = cc x.rows_is in absurd (omega arith)
-opens_some (some d) {n} {k} {lent} r x h =
-    let m : k ≡ length d.kinds = cc x.rows_is in
-    let l : n ≡ d.rows = cc x.rows_is in
-    rw (l, x.kinds_is, m, take_at d.kinds (drop (length d.kinds) lent) (length d.kinds) refl) at h
+pub opens_some : (o : Option Device) {l : DeviceLine} (r : List ℕ) {r' : List ℕ} {a : ℤ} → Reads o (Some l)
+    → Changes (new r l.rows l.kinds.items) a r' → Opens o r a r'
+opens_some none r x h = let e = x.device_is in let z : ◌≡◌ {A = ℕ} 0 1 = cc in absurd (omega arith)
+opens_some (some d) {l} r x h =
+    let e = x.device_is in
+    let m : d.rows ≡ l.rows = cc in
+    let k : d.kinds ≡ l.kinds.items = cc in
+    rw (m, k) h
 
 -- ---- lines 1 to 3
 

@@ -21,7 +21,7 @@ use Rattle.line.specs.Calls.{call_said, answer_of, Says}
 use Rattle.line.specs.declared.call.BlockCall.{BlockCall}
 use Rattle.line.specs.declared.call.Call.{Call as LineCall}
 use Rattle.line.specs.declared.call.Call.TheVariants.{Block}
-use Rattle.line.specs.declared.call.Line.TheVariants.{Does, Malformed}
+use Rattle.std.specs.Prelude.{Some, None}
 use Rattle.desk.specs.Desk.{draft_room, desk_of, Shows, Drafted, Card, Leaves, Answers, Adds}
 use Rattle.desk.specs.Laws.Card.{card_of, on_card}
 use Rattle.desk.specs.Laws.Shows.{shows_none}
@@ -77,12 +77,12 @@ module _ (r : List ℕ) (k : Card r) (number : ℕ) (draft : List ℕ) (used : �
       go (negsuc n) s = leaves_same s
 
   -- a malformed line, with the line reader's number, and a line that says a call
-  pub leaves_malformed : (l : List ℕ) {out : List ℕ} {printed : ℕ} → Says Malformed (sheet_line l) → Shows out printed (says number (answer_of Malformed))
+  pub leaves_malformed : (l : List ℕ) {out : List ℕ} {printed : ℕ} → Says None (sheet_line l) → Shows out printed (says number (answer_of None))
       → Leaves (on_line number (desk_of r (take used draft)) l) r draft used out printed
   unfolding on_line
   leaves_malformed l q s = rw (← q.call_is) (leaves_same s)
 
-pub line_does : (number : ℕ) (k : Desk) (l : List ℕ) {c : LineCall} → Says (Does c) (sheet_line l) → on_line number k l ≡ on_call number k (call_said c)
+pub line_does : (number : ℕ) (k : Desk) (l : List ℕ) {c : LineCall} → Says (Some c) (sheet_line l) → on_line number k l ≡ on_call number k (call_said c)
 unfolding on_line
 line_does number k l q = rw (← q.call_is)
 

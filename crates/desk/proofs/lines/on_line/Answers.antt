@@ -19,5 +19,5 @@ returns c =
     let k = y in
     let r = k in
     let s = r in
-    rw (line_does s.args.number (desk_of s.args.card.now (take s.args.used s.args.draft.now)) s.args.line.now k.in-Does.ensures)
+    rw (line_does s.args.number (desk_of s.args.card.now (take s.args.used s.args.draft.now)) s.args.line.now k.in-Some.ensures)
     y.on_call.ensures
