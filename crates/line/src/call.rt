@@ -97,23 +97,19 @@ impl Fields {
     fn call(self) -> Option<Call>
         ensures { said result ≡ say self }
     {
-        let Fields {
-            task,
-            column,
-            bottom,
-            ..
-        } = self;
         match self.letter {
             b'B' => self.block(),
             b'N' => self.no_field().then_some(Call::Empty),
             b'L' => self.no_field().then_some(Call::List),
             b'C' => self.no_field().then_some(Call::Choose),
             b'P' => self.no_kind().then_some(Call::Place {
-                task,
-                column,
-                bottom,
+                task: self.task,
+                column: self.column,
+                bottom: self.bottom,
             }),
-            b'R' => self.only_task().then_some(Call::Release { task }),
+            b'R' => self
+                .only_task()
+                .then_some(Call::Release { task: self.task }),
             _ => None,
         }
     }

@@ -16,7 +16,7 @@ pub struct DeviceLine {
     pub kinds: ArrayVec<u8, MAX_LINE>,
 }
 
-// MODEL 17.6: whether a line is line 1's names.
+// MODEL 17.6: whether a line is line 1's names. This and the next differ in their text alone: with it as a parameter, nothing but `==` is left.
 pub fn is_first_names(line: &[u8]) -> bool
     ensures { Same line.now first_names result }
 {

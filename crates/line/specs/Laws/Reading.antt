@@ -149,10 +149,10 @@ module _ (f : List ℕ) where
   pub no_text : ¬ (IsUtf8 f) → number_said f ≡ None
   no_text h = unsaid (λ z e l. h (subst IsUtf8 (sym e) (IsUtf8-from_ascii (signed_decimal z) (IsAscii-signed z (omega arith)))))
 
-  pub no_number : {E : Type 0} (r : Result ℤ E) → ParsesSigned w32 10 f r → result_ok r ≡ None → number_said f ≡ None
+  pub no_number : {E : Type 0} (r : Result ℤ E) → ParsesSigned w32 10 f r → None ≡ result_ok r → number_said f ≡ None
   no_number r p n = unsaid (λ z e l. let q = parse-signed_decimal w32 z f r (record { sfits = l }) (omega arith) e p in let z : ◌≡◌ {A = ℕ} 0 1 = cc in omega arith)
 
-  pub other_form : {E : Type 0} (r : Result ℤ E) {z : ℤ} → ParsesSigned w32 10 f r → result_ok r ≡ Some z → (signed_decimal z ≡ f → ⊥) → number_said f ≡ None
+  pub other_form : {E : Type 0} (r : Result ℤ E) {z : ℤ} → ParsesSigned w32 10 f r → Some z ≡ result_ok r → (signed_decimal z ≡ f → ⊥) → number_said f ≡ None
   other_form r {z} p s n = unsaid (λ y e l. let q = parse-signed_decimal w32 y f r (record { sfits = l }) (omega arith) e p in n (let v : z ≡ y = cc in rw v (sym e)))
 
 -- what `==` says of two texts

@@ -14,7 +14,7 @@ pub returns-in_err-number : goal.returns-in_err-number
 returns-in_err-number g c =
     let text : c.in_ok-ok.field-0.now ≡ c.args.field.now = search rules in
     let parsed = rw text at c.parse.ensures.value.0 in
-    rw (no_number c.args.field.now c.parse.result parsed (sym c.in_err-number.ensures.value)) c.from_residual-in_err-number.ensures
+    rw (no_number c.args.field.now c.parse.result parsed c.in_err-number.ensures.value) c.from_residual-in_err-number.ensures
 
 pub returns-then-ne : goal.returns-then-ne
 returns-then-ne g c =
@@ -22,7 +22,7 @@ returns-then-ne g c =
     let parsed = rw text at c.parse.ensures.value.0 in
     let fits : SFits w32 c.in_ok-number.number = search rules in
     let shown = rw (c.as_bytes.ensures.value, c.format.ensures.text, to_z-of_z w32 c.in_ok-number.number fits) at c.if-ne.ensures in
-    rw (other_form c.args.field.now c.parse.result parsed (sym c.in_ok-number.ensures.value) (other_text shown))
+    rw (other_form c.args.field.now c.parse.result parsed c.in_ok-number.ensures.value (other_text shown))
 
 pub returns : goal.returns
 returns g c =
