@@ -32,6 +32,7 @@ impl<const N: usize> Forest<N> {
     }
 
     // The root of a node: up from parent to parent.
+    #[tactic(auto, using(crate::specs::Laws::Unions::root_step, crate::specs::Laws::Unions::root_here))]
     pub fn root(&self, node: usize) -> usize
         requires { node < N }
         ensures { (result ≡ root_of self.now.parents node) × (result ≤ node) }
@@ -47,6 +48,7 @@ impl<const N: usize> Forest<N> {
     }
 
     // Makes one set of the sets of two nodes, and says whether they were two. The higher root goes below the lower.
+    #[tactic(auto, using(crate::specs::Laws::Unions::unite_same, crate::specs::Laws::Unions::unite_two))]
     pub fn unite(&mut self, i: usize, j: usize) -> bool
         requires { (i < N) × (j < N) }
         ensures { (self.new.parents ≡ union self.old.parents i j)

@@ -26,6 +26,7 @@ pub fn byte(s: &[u8], at: usize) -> usize
 }
 
 // The number in the two bytes at `at`.
+#[tactic(auto, unfolding(model::specs::Tasks::word))]
 pub fn get16(s: &[u8], at: usize) -> u32
     requires { at + 1 < length s.now }
     ensures { Read16 s.now at result }
@@ -34,6 +35,7 @@ pub fn get16(s: &[u8], at: usize) -> u32
 }
 
 // Puts a number into the two bytes at `at`.
+#[tactic(auto, using(model::proofs::Laws::Parts::set_two), unfolding(model::specs::Record::bytes16))]
 pub fn put16(s: &mut [u8], at: usize, v: u32)
     requires { (at + 1 < length s.old) × (v < words) }
     ensures { s.new ≡ splice s.old at 2 (bytes16 v) }
@@ -59,6 +61,7 @@ pub fn wipe(s: &mut [u8])
 }
 
 // Are all bytes 0? The loop has no exit but its end, as `all` has, so that it vectorises.
+#[tactic(auto, using(crate::specs::Laws::Zeros::ored_next))]
 fn all_zeros(s: &[u8]) -> bool
     ensures { AllZero s.now result }
 {
@@ -70,6 +73,7 @@ fn all_zeros(s: &[u8]) -> bool
 }
 
 // The same, faster: whole blocks, and then the last block once more, so that no bytes are left over to be looked at one by one.
+#[tactic(auto, using(std::proofs::lemmas::List::take_rest, crate::specs::Laws::Zeros::back_tells))]
 pub fn zeros(s: &[u8]) -> bool
     ensures { AllZero s.now result }
 {
