@@ -21,7 +21,6 @@ mod answers; // what calls answer, and an answer as its number
 
 pub use answers::{Chosen, Fragmentation, answer};
 use choice::Best;
-use listing::output::Listed;
 pub use old::{
     TASK_LENGTH, card_choose, card_fragmentation, card_interval_count, card_list, card_new,
     card_place, card_release,
@@ -173,9 +172,9 @@ pub fn list(record: &[u8], task: &[u8], output: &mut [u8]) -> Result<u16, Refusa
     if output.len() < model::LIST_ROOM {
         return Err(Refusal::OutputShort);
     }
-    match listing::output::list(record.bytes, task.bytes, output) {
-        Listed::Ranges(count) => Ok(count as u16),
-        Listed::NoPosition => Err(Refusal::NoPosition),
+    match listing::output::list(record, task, output) {
+        Some(count) => Ok(count as u16),
+        None => Err(Refusal::NoPosition),
     }
 }
 

@@ -137,12 +137,6 @@ pub record FitsRange (d : Device) (b : Book) (t : List ℕ) (p : ℕ) (R : Range
   pub all_fit : (y : ℕ) → In (step t) y (run R.first R.last) → fits d b t p y ≡ true
   pub ends : fits d b t p (R.last + step t) ≡ false
 
--- the runs L, as two lists of their firsts and of their lasts
-pub record RangesAre (L : List Run) (firsts lasts : List ℕ) : Type 0 where
-  pub firsts_length : length firsts ≡ length L
-  pub lasts_length : length lasts ≡ length L
-  pub entries : (i : ℕ) (e : Run) → i < length L → run (get_or firsts i 0) (get_or lasts i 0) ≡ get_or L i e
-
 -- ---- the answer
 
 -- MODEL 21.6: the number of each case, which is that of the choice (MODEL 11.6) or −9 (MODEL 13.1)

@@ -14,12 +14,15 @@ ghost use Rattle.model.specs.Choice.{judge};
 ghost use Rattle.model.specs.Record.{device_of, book_of};
 ghost use Rattle.model.specs.Sound.{sound};
 ghost use Rattle.model.specs.Homes.{bit, holder};
-ghost use Rattle.listing.specs.Arrays.{Room};
 ghost use Rattle.listing.specs.Columns.{Given, ranges_in};
-ghost use Rattle.choice.specs.Choosing.{same_home, Housed, InBounds, piece_below, pieces_of, span_of, tally_with, Scoring, Scored, Small, better_of, Rises, Climbed, FitsRange, RangesAre, Chooses};
+ghost use Rattle.choice.specs.Choosing.{same_home, Housed, InBounds, piece_below, pieces_of, span_of, tally_with, Scoring, Scored, Small, better_of, Rises, Climbed, FitsRange, Chooses};
 
 use column::{Held, Interval};
+use listing::columns::{Room, column_ranges};
+use listing::run::Run;
+use record::checked::SoundRecord;
 use runs::{Range, lower};
+use task::Task;
 
 // More room than any block has.
 const MOST_ROOM: u32 = 65535;
@@ -248,25 +251,25 @@ fn climb_range(record: &[u8], task: &[u8], column: u32, range: Range, best: Best
     best
 }
 
-// The better of the best so far and the bottoms of all ranges of a column, whose firsts and lasts are lent.
+// The better of the best so far and the bottoms of all ranges of a column.
 fn climb_ranges(
     record: &[u8],
     task: &[u8],
     column: u32,
     step: u32,
-    firsts: &[u32],
-    lasts: &[u32],
+    ranges: &[Run],
     best: Best,
 ) -> Best
-    requires { Given «record».now task.now × (step ≡ step_of task.now) × RangesAre (ranges_in (device_of «record».now) (book_of «record».now) task.now column) firsts.now lasts.now × Small best }
+    requires { Given «record».now task.now × (step ≡ step_of task.now) × (ranges.now ≡ ranges_in (device_of «record».now) (book_of «record».now) task.now column) × Small best }
     ensures { Climbed (judge (device_of «record».now) (book_of «record».now) task.now) column 0 (half_rows (device_of «record».now)) best result }
 {
     let mut best = best;
     let mut i: usize = 0;
-    while i < firsts.len() {
+    while i < ranges.len() {
+        let run = &ranges[i];
         let range = Range {
-            first: firsts[i],
-            last: lasts[i],
+            first: run.first,
+            last: run.last,
             step,
         };
         best = climb_range(record, task, column, range, best);
@@ -275,29 +278,25 @@ fn climb_ranges(
     best
 }
 
-// The better of the best so far and all positions of a column. The two slices have room for its ranges.
+// The better of the best so far and all positions of a column.
 fn climb_column(
     record: &[u8],
     task: &[u8],
     column: u32,
     step: u32,
-    firsts: &mut [u32],
-    lasts: &mut [u32],
+    room: &mut Room,
     best: Best,
 ) -> Best
-    requires { Given «record».now task.now × (column < max_columns) × (step ≡ step_of task.now) × Room firsts.old lasts.old × Small best }
+    requires { Given «record».now task.now × (column < max_columns) × (step ≡ step_of task.now) × Small best }
     ensures { Climbed (judge (device_of «record».now) (book_of «record».now) task.now) column 0 (half_rows (device_of «record».now)) best result }
 {
-    let count = listing::columns::column_ranges(record, task, column as usize, firsts, lasts);
-    climb_ranges(
-        record,
-        task,
-        column,
-        step,
-        &firsts[..count],
-        &lasts[..count],
-        best,
-    )
+    let ranges = column_ranges(
+        SoundRecord { bytes: record },
+        Task { bytes: task },
+        column as usize,
+        room,
+    );
+    climb_ranges(record, task, column, step, ranges, best)
 }
 
 // MODEL 11.5: the choice for a task, or nothing where it fits at no position.
@@ -307,12 +306,11 @@ pub fn best_position(record: &[u8], task: &[u8]) -> Best
 {
     let step = task::step(task);
     let last = words::wide(record[model::COLUMNS_AT]) - 1;
-    let mut firsts = [0u32; model::MAX_INTERVALS];
-    let mut lasts = [0u32; model::MAX_INTERVALS];
+    let mut room = Room::new();
     let mut best = Best::Nothing;
     let mut column: u32 = 0;
     while column <= last {
-        best = climb_column(record, task, column, step, &mut firsts, &mut lasts, best);
+        best = climb_column(record, task, column, step, &mut room, best);
         column += 1;
     }
     best

@@ -1,7 +1,7 @@
--- What is proved of bottoms and of lists in arrays.
+-- What is proved of bottoms and of lists of runs.
 pub mod Bottoms
 pub mod Blocks
-pub mod Arrays
+pub mod Lists
 pub mod Walk
 pub mod Column
 pub mod Output

@@ -1,133 +1,119 @@
 // MODEL 10.4: the ranges of a task in one column. All half rows on the first block's grid are met with one block after the other.
-ghost use Rattle.std.specs.Prelude.{◌≡◌, true, ◌+◌, ◌<◌};
-ghost use Rattle.model.specs.Limits.{max_columns};
+ghost use Rattle.std.specs.Prelude.{◌≡◌, ◌+◌, ◌-◌, ◌*◌, ◌/◌, ◌≤◌, ◌<◌, [], ◌∷◌, length};
+ghost use Rattle.runs.specs.Runs.{run};
+ghost use Rattle.model.specs.Limits.{max_rows, max_columns};
+ghost use Rattle.model.specs.Columns.{height};
 ghost use Rattle.model.specs.Kinds.{number_of};
-ghost use Rattle.model.specs.Sound.{sound};
-ghost use Rattle.listing.specs.Arrays.{Room};
-ghost use Rattle.listing.specs.Columns.{Given, OfKind, OnAll, Liftable, Startable, Started, LiftedTo, Nextable, Lifted, Ranged};
+ghost use Rattle.model.specs.Tasks.{blocks, block};
+ghost use Rattle.model.specs.Record.{device_of, book_of};
+ghost use Rattle.listing.specs.Lists.{max_runs};
+ghost use Rattle.listing.specs.Bottoms.{lift, Standing};
+ghost use Rattle.listing.specs.Columns.{OfKind, OnAll, OnEach, AllStanding, ranges_in};
 
-use crate::arrays::{Runs, copy_runs, lower_runs};
+use crate::run::{Run, Runs};
 use crate::walk::meet_block;
 use crate::{LIFT, MAX_RUNS};
 use model::Kind;
-use words::byte;
+use record::checked::SoundRecord;
+use std::mem;
+use task::Task;
 
 // Whether device column c is on the device and of that kind.
-fn of_kind(record: &[u8], c: usize, kind: Kind) -> bool
-    requires { sound «record».now ≡ true }
-    ensures { OfKind «record».now c (number_of kind) result }
+fn of_kind(record: SoundRecord, c: usize, kind: Kind) -> bool
+    ensures { OfKind «record».entry.bytes.now c (number_of kind) result }
 {
-    if byte(record, model::COLUMNS_AT) <= c {
-        return false;
-    }
-    record[model::KINDS_AT + c] == kind.number()
+    c < record.columns() && record.kind(c) == kind
 }
 
 // MODEL 6.2: whether the column of each block, moved to column p, is one of the device and has its kind.
-fn on_columns(record: &[u8], task: &[u8], p: usize) -> bool
-    requires { Given «record».now task.now × (p < max_columns) }
-    ensures { OnAll «record».now task.now p result }
+fn on_columns(record: SoundRecord, task: Task, p: usize) -> bool
+    requires { p < max_columns }
+    ensures { OnAll «record».entry.bytes.now task.entry.bytes.now p result }
 {
-    let count = task.len() / model::BLOCK_SIZE;
-    let mut k: usize = 0;
-    while k < count {
-        let b = task::block_at(task, k);
-        let kind = b.kind;
-        if !of_kind(record, p + b.column as usize, kind) {
+    for k in 0..task.count() {
+        let b = task.block(k);
+        if !of_kind(record, p + b.column as usize, b.kind) {
             return false;
         }
-        k += 1;
     }
     true
 }
 
-// All half rows, lifted, on the grid of the first block.
-fn start_list(task: &[u8], firsts: &mut [u32], lasts: &mut [u32]) -> Runs
-    requires { Startable task.now firsts.old lasts.old }
-    ensures { Started task.now firsts.new lasts.new result.count result.step }
-{
-    let step = task::block_at(task, 0).height();
-    firsts[0] = LIFT;
-    lasts[0] = LIFT + (2 * model::MAX_ROWS - 1) / step * step;
-    Runs {
-        count: 1,
-        step: step,
+// Two lists to work in by turns: one is read while the other is written.
+#[derive(Drop)]
+pub struct Room {
+    now: Runs,
+    next: Runs,
+}
+
+impl Room {
+    pub fn new() -> Room {
+        Room {
+            now: Runs::new(),
+            next: Runs::new(),
+        }
     }
 }
 
-// Of a list of lifted bottoms in column p, those at which block k stands free too. The list is copied aside to be read.
+// All half rows, lifted, on the grid of the first block, whose height is the step.
+fn start_list(task: Task, list: &mut Runs) -> u32
+    ensures step { result ≡ height (block task.entry.bytes.now 0).kind }
+    ensures all { list.new ≡ run lift (lift + (2 * max_rows - 1) / result * result) ∷ [] }
+{
+    let step = task.block(0).height();
+    list.start(Run {
+        first: LIFT,
+        last: LIFT + (2 * model::MAX_ROWS - 1) / step * step,
+    });
+    step
+}
+
+// Of a list of lifted bottoms in column p, those at which block k stands free too, and their step.
 fn meet_next(
-    record: &[u8],
-    task: &[u8],
+    record: SoundRecord,
+    task: Task,
     p: usize,
     k: usize,
-    list: Runs,
-    firsts: &mut [u32],
-    lasts: &mut [u32],
-    lows: &mut [u32],
-    highs: &mut [u32],
-) -> Runs
-    requires { Nextable «record».now task.now p k list.count list.step firsts.old lasts.old × Room lows.old highs.old }
-    ensures { LiftedTo «record».now task.now p (k + 1) result.count result.step firsts.new lasts.new }
+    step: u32,
+    list: &[Run],
+    met: &mut Runs,
+) -> u32
+    requires next { k < blocks task.bytes.now }
+    requires on { OnEach «record».bytes.now task.bytes.now p }
+    requires listed { Standing (device_of «record».bytes.now) (book_of «record».bytes.now) task.bytes.now p k step list.now }
+    ensures { Standing (device_of «record».entry.bytes.now) (book_of «record».entry.bytes.now) task.entry.bytes.now p (k + 1) result met.new }
 {
-    let b = task::block_at(task, k);
-    copy_runs(firsts, lasts, list.count, lows, highs);
-    let n = meet_block(
-        record,
-        p + b.column as usize,
-        b,
-        lows,
-        highs,
-        list,
-        firsts,
-        lasts,
-    );
-    Runs {
-        count: n,
-        step: runs::lcm(list.step, b.height()),
-    }
+    let b = task.block(k);
+    let column = record.column(p + b.column as usize);
+    meet_block(column, b, step, list, met);
+    runs::lcm(step, b.height())
 }
 
 // The lifted bottoms of the task in column p: all half rows, met with one block after the other.
-fn lifted_bottoms(
-    record: &[u8],
-    task: &[u8],
-    p: usize,
-    firsts: &mut [u32],
-    lasts: &mut [u32],
-) -> usize
-    requires { Liftable «record».now task.now p × Room firsts.old lasts.old }
-    ensures { Lifted «record».now task.now p firsts.new lasts.new result }
+fn lifted_bottoms<'a>(record: SoundRecord, task: Task, p: usize, room: &'a mut Room) -> &'a mut Runs
+    requires { OnEach «record».bytes.now task.bytes.now p }
+    ensures { AllStanding «record».entry.bytes.now task.entry.bytes.now p result.now }
 {
-    let mut lows = [0u32; MAX_RUNS];
-    let mut highs = [0u32; MAX_RUNS];
-    let count = task.len() / model::BLOCK_SIZE;
-    let mut list = start_list(task, firsts, lasts);
-    let mut k: usize = 0;
-    while k < count {
-        list = meet_next(
-            record, task, p, k, list, firsts, lasts, &mut lows, &mut highs,
-        );
-        k += 1;
+    let mut now = &mut room.now;
+    let mut next = &mut room.next;
+    let mut step = start_list(task, now);
+    for k in 0..task.count() {
+        step = meet_next(record, task, p, k, step, now.as_slice(), next);
+        mem::swap(&mut now, &mut next);
     }
-    list.count
+    now
 }
 
 // MODEL 10.4: the ranges of the task in column p.
-pub fn column_ranges(
-    record: &[u8],
-    task: &[u8],
-    p: usize,
-    firsts: &mut [u32],
-    lasts: &mut [u32],
-) -> usize
-    requires { Given «record».now task.now × Room firsts.old lasts.old × (p < max_columns) }
-    ensures { Ranged «record».now task.now p firsts.new lasts.new result }
+pub fn column_ranges<'a>(record: SoundRecord, task: Task, p: usize, room: &'a mut Room) -> &'a [Run]
+    requires { p < max_columns }
+    ensures few { length result.now ≤ max_runs }
+    ensures ranges { result.now ≡ ranges_in (device_of «record».entry.bytes.now) (book_of «record».entry.bytes.now) task.entry.bytes.now p }
 {
     if !on_columns(record, task, p) {
-        return 0;
+        return &[];
     }
-    let n = lifted_bottoms(record, task, p, firsts, lasts);
-    lower_runs(firsts, lasts, n);
-    n
+    let ranges = lifted_bottoms(record, task, p, room);
+    ranges.lower();
+    ranges.as_slice()
 }

@@ -1,8 +1,8 @@
 // MODEL 10: the ranges of a task on a sound record, those of one column, and the whole listing.
-// A list of runs stands in two arrays. Of a column, it starts with all half rows, and is met with the free intervals of one block after the other.
+// The list of runs of a column starts with all half rows, and is met with the free intervals of one block after the other.
 #![tactic(auto)]
 
-pub mod arrays; // a list of runs
+pub mod run; // a run, and a list of runs
 pub mod walk; // one block along a list
 pub mod columns; // the ranges of one column
 pub mod output; // the whole listing

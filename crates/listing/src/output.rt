@@ -6,73 +6,58 @@ ghost use Rattle.model.specs.Listing.{range_of};
 ghost use Rattle.model.specs.Record.{device_of, book_of};
 ghost use Rattle.model.specs.Calls.{range_bytes};
 ghost use Rattle.model.specs.Parts.{splice};
-ghost use Rattle.listing.specs.Arrays.{read};
-ghost use Rattle.listing.specs.Columns.{Given};
 ghost use Rattle.listing.specs.Output.{Writable, AllWritable, column_bytes, Answers};
 
-use crate::MAX_RUNS;
-use crate::columns::column_ranges;
-use words::byte;
+use crate::columns::{Room, column_ranges};
+use crate::run::Run;
+use record::checked::SoundRecord;
+use task::Task;
+use words::put16;
 
-// MODEL 12.1 and 13.7: what a listing answers, how many ranges it wrote, or that no position fits.
-#[derive(Drop)]
-pub enum Listed {
-    Ranges(u32),
-    NoPosition,
+// Where ranges are listed: their column, and the step of their bottoms.
+#[derive(Clone, Copy)]
+struct Place {
+    column: usize,
+    step: u32,
 }
 
 // MODEL 10.6: writes a range as number n of the output.
-fn write_range(output: &mut [u8], n: usize, column: usize, step: u32, first: u32, last: u32)
-    requires { Writable (length output.old) n column step first last }
-    ensures { output.new ≡ splice output.old (range_size * n) range_size (range_bytes (range_of column step (run first last))) }
+fn write_range(output: &mut [u8], n: usize, at: Place, run: Run)
+    requires { Writable (length output.old) n at.column at.step run }
+    ensures { output.new ≡ splice output.old (range_size * n) range_size (range_bytes (range_of at.column at.step run)) }
 {
-    let at = model::RANGE_SIZE * n;
-    output[at] = column as u8;
-    output[at + model::RANGE_STEP_AT] = step as u8;
-    words::put16(output, at + model::RANGE_FIRST_AT, first);
-    words::put16(output, at + model::RANGE_LAST_AT, last);
+    let start = model::RANGE_SIZE * n;
+    output[start] = at.column as u8;
+    output[start + model::RANGE_STEP_AT] = at.step as u8;
+    put16(output, start + model::RANGE_FIRST_AT, run.first);
+    put16(output, start + model::RANGE_LAST_AT, run.last);
 }
 
 // Writes the ranges of a column as numbers n and up of the output.
-fn write_ranges(
-    output: &mut [u8],
-    n: usize,
-    column: usize,
-    step: u32,
-    firsts: &[u32],
-    lasts: &[u32],
-    count: usize,
-)
-    requires { AllWritable (length output.old) n column step firsts.now lasts.now count }
-    ensures { output.new ≡ splice output.old (range_size * n) (range_size * count) (column_bytes column step (read count firsts.now lasts.now)) }
+fn write_ranges(output: &mut [u8], n: usize, at: Place, runs: &[Run])
+    requires { AllWritable (length output.old) n at.column at.step runs.now }
+    ensures { output.new ≡ splice output.old (range_size * n) (range_size * length runs.now) (column_bytes at.column at.step runs.now) }
 {
-    let mut i: usize = 0;
-    while i < count {
-        write_range(output, n + i, column, step, firsts[i], lasts[i]);
-        i += 1;
+    for (i, run) in runs.iter().enumerate() {
+        write_range(output, n + i, at, *run);
     }
 }
 
-// MODEL 12.6: writes all ranges of the task, by rising column.
-pub fn list(record: &[u8], task: &[u8], output: &mut [u8]) -> Listed
-    requires { Given «record».now task.now × (list_room ≤ length output.old) }
-    ensures { Answers result (device_of «record».now) (book_of «record».now) task.now output.old output.new }
+// MODEL 12.6: writes all ranges of the task, by rising column. The answer (MODEL 12.1 and 13.7) is how many, or none where no position fits.
+pub fn list(record: SoundRecord, task: Task, output: &mut [u8]) -> Option<u32>
+    requires { list_room ≤ length output.old }
+    ensures { Answers result (device_of «record».entry.bytes.now) (book_of «record».entry.bytes.now) task.entry.bytes.now output.old output.new }
 {
-    let mut firsts = [0u32; MAX_RUNS];
-    let mut lasts = [0u32; MAX_RUNS];
-    let last = byte(record, model::COLUMNS_AT) - 1;
-    let step = task::step(task);
+    let mut room = Room::new();
+    let step = task.step();
     let mut n: usize = 0;
-    let mut p: usize = 0;
-    while p <= last {
-        let count = column_ranges(record, task, p, &mut firsts, &mut lasts);
-        write_ranges(output, n, p, step, &firsts, &lasts, count);
-        n += count;
-        p += 1;
+    for column in 0..record.columns() {
+        let ranges = column_ranges(record, task, column, &mut room);
+        write_ranges(output, n, Place { column, step }, ranges);
+        n += ranges.len();
     }
     if n == 0 {
-        return Listed::NoPosition;
+        return None;
     }
-    let answer = n as u32;
-    Listed::Ranges(answer)
+    Some(n as u32)
 }

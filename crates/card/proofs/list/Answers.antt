@@ -20,15 +20,15 @@ returns-then-output-lt-LIST_ROOM c =
 pub overflow_cast-result : goal.overflow_cast-result
 overflow_cast-result c =
     let k = c.in_ok-record in
-    let few = few_ranges _ _ _ (given k.record k.task k.ensures) _ _ (rw (k.ensures.0, k.ensures.1) at c.list.ensures) c.if-output-lt-LIST_ROOM.false _ c.in-Ranges.is in
+    let few = few_ranges _ _ _ (given k.record k.task k.ensures) _ _ (rw (k.ensures.0, k.ensures.1) at c.list.ensures) c.if-output-lt-LIST_ROOM.false _ c.in-Some.is in
     omega arith
 
-pub returns-in-Ranges : goal.returns-in-Ranges
-returns-in-Ranges c =
+pub returns-in-Some : goal.returns-in-Some
+returns-in-Some c =
     let k = c.in_ok-record in
-    list_answers _ _ _ (given k.record k.task k.ensures) _ _ (rw (k.ensures.0, k.ensures.1) at c.list.ensures) (λ i. omega (arith, c.type_inv.record i)) (ap answer_of c.in-Ranges.is)
+    list_answers _ _ _ (given k.record k.task k.ensures) _ _ (rw (k.ensures.0, k.ensures.1) at c.list.ensures) (λ i. omega (arith, c.type_inv.record i)) (ap answer_of c.in-Some.is)
 
-pub returns-in-NoPosition : goal.returns-in-NoPosition
-returns-in-NoPosition c =
+pub returns-in-None : goal.returns-in-None
+returns-in-None c =
     let k = c.in_ok-record in
-    list_answers _ _ _ (given k.record k.task k.ensures) _ _ (rw (k.ensures.0, k.ensures.1) at c.list.ensures) (λ i. omega (arith, c.type_inv.record i)) (ap answer_of c.in-NoPosition.is)
+    list_answers _ _ _ (given k.record k.task k.ensures) _ _ (rw (k.ensures.0, k.ensures.1) at c.list.ensures) (λ i. omega (arith, c.type_inv.record i)) (ap answer_of c.in-None.is)

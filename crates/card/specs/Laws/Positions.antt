@@ -1,5 +1,6 @@
 -- MODEL 10, 11 and 12: list and choose, return by return. Assumes nothing.
 use Rattle.std.specs.Prelude.{ℕ, ◌*◌, ◌≤◌, ◌<◌, ◌≡◌, refl, List, [], ℤ, length}
+use Rattle.std.specs.Prelude.{Option as Maybe, Some}
 use Rattle.std.proofs.Math.Path.{sym}
 use Rattle.std.proofs.Common.{◌∙◌, arith}
 use Rattle.std.proofs.Math.Option.{Option, none, some}
@@ -18,8 +19,6 @@ use Rattle.model.proofs.Laws.OnRecord.{sound_call, refused_call, list_leaves, ch
 use Rattle.listing.specs.Columns.{Given}
 use Rattle.listing.specs.Output.{answer_of, Answers}
 use Rattle.listing.specs.Laws.Output.{count_is}
-use Rattle.listing.specs.declared.output.Listed.{Listed}
-use Rattle.listing.specs.declared.output.Listed.TheVariants.{Ranges}
 use Rattle.choice.specs.Choosing.{answer_of as best_answer, Chooses}
 use Rattle.choice.specs.declared.Best.{Best}
 use Rattle.choice.specs.declared.Best.TheVariants.{At as BestAt}
@@ -35,7 +34,7 @@ module _ (r t o : List ℕ) (x : Given r t) where
   unfolding refused refusals lent
   list_short B h = leaves (refused_call r (list t o) x.sound B 6 (rw (x.sized, x.formed, lt-ltb (length o) list_room h)))
 
-  module _ (a : Listed) (p : List ℕ) (h : Answers a (device_of r) (book_of r) t o p) where
+  module _ (a : Maybe ℕ) (p : List ℕ) (h : Answers a (device_of r) (book_of r) t o p) where
     -- the answer of each case
     pub list_answers : Bytes r → {z : ℤ} → answer_of a ≡ z → Leaves (on_record r (list t o)) z r p
     unfolding written
@@ -44,7 +43,7 @@ module _ (r t o : List ℕ) (x : Given r t) where
         record { answer_is = rw q (sym e ∙ h.answer_is); record_is = sym (list_leaves r t o B); output_is = rw q h.output_is }
 
     -- there are at most 64 ranges in each column
-    pub few_ranges : list_room ≤ length o → (n : ℕ) → a ≡ Ranges n → n ≤ max_intervals * max_columns
+    pub few_ranges : list_room ≤ length o → (n : ℕ) → a ≡ Some n → n ≤ max_intervals * max_columns
     few_ranges l n e =
         let w = sound_within r x.sound in
         let cols = (limits_to (device_of r) (book_of r) w).columns in

@@ -1,5 +1,4 @@
 -- Answers of `choice::best_position`.
-use mathlib.Core.Path.{refl, sym}
 use native.Mathlib.Omega.{arith}
 use Rattle.model.proofs.Laws.Sound.{sound_length}
 use Rattle.choice.specs.Laws.Columns.{best_none, best_next, column_count, chooses}
@@ -18,13 +17,7 @@ pub overflow_sub-last : goal.overflow_sub-last
 overflow_sub-last c = omega (arith, column_count _ _ c.requires _ c.wide-last.ensures.is)
 
 pub loop-column-init : goal.loop-column-init
-loop-column-init c = (best_none _ _ _, record { firsts = refl; lasts = refl })
-
-pub slice_bounds-climb_column-end : goal.slice_bounds-climb_column-end
-slice_bounds-climb_column-end c = sym c.loop-column.invariant.1.firsts
-
-pub slice_bounds-climb_column-end-in-loop-column : goal.slice_bounds-climb_column-end-in-loop-column
-slice_bounds-climb_column-end-in-loop-column c = sym c.loop-column.invariant.1.lasts
+loop-column-init c = best_none _ _ _
 
 pub climb_column-best-requires : goal.climb_column-best-requires
 climb_column-best-requires c =
@@ -33,7 +26,7 @@ climb_column-best-requires c =
     let w = i in
     let p = w.requires in
     let n = column_count _ _ p _ w.wide-last.ensures.is in
-    (p, omega (arith, i.loop-column-test.true), w.step-step.ensures, l.invariant.1, l.invariant.0.small)
+    (p, omega (arith, i.loop-column-test.true), w.step-step.ensures, l.invariant.small)
 
 pub overflow_add-column : goal.overflow_add-column
 overflow_add-column c =
@@ -51,11 +44,11 @@ loop-column-preserved c =
     let w = i in
     let p = w.requires in
     let n = column_count _ _ p _ w.wide-last.ensures.is in
-    (best_next _ _ _ _ _ _ (omega (arith, i.loop-column-test.true)) l.invariant.0 k.climb_column-best.ensures, record { firsts = omega (arith, l.invariant.1.firsts, c.climb_column-best.auto.firsts); lasts = omega (arith, l.invariant.1.lasts, c.climb_column-best.auto.lasts) })
+    best_next _ _ _ _ _ _ (omega (arith, i.loop-column-test.true)) l.invariant k.climb_column-best.ensures
 
 pub returns : goal.returns
 returns c =
     let w = c in
     let p = w.requires in
     let n = column_count _ _ p _ w.wide-last.ensures.is in
-    chooses _ _ p _ _ (omega (arith, n, c.loop-column-test.false)) c.loop-column.invariant.0
+    chooses _ _ p _ _ (omega (arith, n, c.loop-column-test.false)) c.loop-column.invariant

@@ -9,4 +9,4 @@ abbrev pub invariant-loop-i : goal.invariant-loop-i
 invariant-loop-i l = Passed (device_of l.record) (book_of l.record) l.task l.column l.i l.initial.best l.best
 
 abbrev pub decreases-loop-i : goal.decreases-loop-i
-decreases-loop-i l = length l.firsts - l.i
+decreases-loop-i l = length l.ranges - l.i

@@ -24,18 +24,16 @@ use Rattle.model.proofs.Laws.Sound.{columns_said, sound_within}
 use Rattle.model.proofs.Laws.Climb.{climb_none}
 use Rattle.model.proofs.Laws.Ends.{chosen_at}
 use Rattle.model.proofs.Laws.NoPosition.{chosen_nothing_iff}
-use Rattle.listing.specs.Arrays.{Room}
-use Rattle.listing.specs.Columns.{Given, ranges_in, Ranged}
+use Rattle.listing.specs.Columns.{Given, ranges_in}
 use Rattle.listing.specs.Laws.Column.{some_columns, few_columns, some_blocks}
-use Rattle.listing.specs.Laws.Arrays.{length_read, get_d_read}
-use Rattle.choice.specs.Choosing.{Small, Is, Climbed, FitsRange, RangesAre, Chooses}
+use Rattle.choice.specs.Choosing.{Small, Is, Climbed, FitsRange, Chooses}
 use Rattle.choice.specs.declared.Best.{Best}
 use Rattle.choice.specs.declared.Best.TheVariants.{Nothing, At}
 
 -- ---- one column
 
 -- range i of column p; past the last one, the height of the device
-abbrev range_at : Device → Book → List ℕ → ℕ → ℕ → Run
+abbrev pub range_at : Device → Book → List ℕ → ℕ → ℕ → Run
 range_at d b t p i = get_or (ranges_in d b t p) i (run (half_rows d) (half_rows d))
 
 -- i ranges of column p are passed: e is the best below the next one
@@ -125,19 +123,6 @@ module _ (d : Device) (b : Book) (t : List ℕ) (w : well_formed t ≡ true) (n 
   -- all ranges are passed
   pub passed_all : (i : ℕ) (c e : Best) → length (ranges_in d b t p) ≤ i → Passed d b t p i c e → Climbed (judge d b t) p 0 (half_rows d) c e
   passed_all i c e l h = rw (start_past (half_rows d) (ranges_in d b t p) i l) at h.climbed
-
--- the ranges that `column_ranges` leaves in two arrays
-pub ranges_are : {r t F T : List ℕ} {p n : ℕ} → Ranged r t p F T n → Room F T → RangesAre (ranges_in (device_of r) (book_of r) t p) (take n F) (take n T)
-ranges_are {r} {t} {F} {T} {p} {n} g m =
-    let few = g.few in
-    let l : length (ranges_in (device_of r) (book_of r) t p) ≡ n = ap length (sym g.runs) ∙ length_read n F T in
-    record {
-      firsts_length = rw l (simp length-take (omega (arith, m.firsts)));
-      lasts_length = rw l (simp length-take (omega (arith, m.lasts)));
-      entries = λ i e h.
-          let q : i < n = omega arith in
-          rw (get_or-take n F i 0 q, get_or-take n T i 0 q) (sym (get_d_read n i F T e q) ∙ ap (λ (L : List Run). get_or L i e) g.runs);
-    }
 
 -- ---- all columns
 

@@ -1,39 +1,41 @@
 -- MODEL 10.4: a task in one column of a sound record, what the walks need of the record, and the model's ranges at the end. Assumes nothing.
-use Rattle.std.specs.Prelude.{ℕ, ◌+◌, ◌-◌, ◌*◌, ◌/◌, ◌≤◌, ◌<◌, ◌≡◌, refl, Bool, true, false, List, map, eqb, length, set}
-use Rattle.std.proofs.Common.{sym, ap, subst, ◌∙◌, true≢false, arith, add-one, eqb-true, get_or-set_same, div-add-mod'}
-use Rattle.std.proofs.lemmas.Bool.{false≢true, eqb-false}
+use Rattle.std.specs.Prelude.{ℕ, ◌+◌, ◌-◌, ◌*◌, ◌/◌, ◌≤◌, ◌<◌, ◌≡◌, refl, Bool, true, false, List, [], map, length, All}
+use Rattle.std.proofs.Common.{sym, subst, true≢false, arith, add-one, div-add-mod'}
+use Rattle.std.proofs.lemmas.Bool.{false≢true}
 use Rattle.std.proofs.Math.ListN.{get_or}
-use Rattle.runs.specs.Runs.{Mem}
-use Rattle.runs.specs.Intervals.{Interval, interval}
+use Rattle.runs.specs.Runs.{Run}
+use Rattle.runs.specs.Intervals.{Interval}
 use Rattle.runs.specs.Meet.{Step, Lcm}
 use Rattle.model.proofs.Laws.Bounded.{last_or}
 use Rattle.model.specs.Kinds.{number_of}
-use Rattle.model.specs.Limits.{block_size, max_blocks, max_kind, max_columns, max_rows, columns_at, kinds_at}
-use Rattle.model.specs.Columns.{columns, kind, height}
-use Rattle.model.specs.Tasks.{blocks, block}
+use Rattle.model.specs.Limits.{block_size, max_blocks, max_kind, max_columns, max_rows}
+use Rattle.model.specs.Columns.{Device, columns, kind, height}
+use Rattle.model.specs.Tasks.{blocks, block, sized, well_formed}
 use Rattle.model.specs.Tasks as model
-use Rattle.model.specs.Book.{intervals}
+use Rattle.model.specs.Book.{Book, intervals}
 use Rattle.model.specs.Record.{device_of, book_of, listed_intervals}
 use Rattle.model.specs.Sound.{sound, count_of}
 use Rattle.model.proofs.Laws.Columns.{top_le}
 use Rattle.model.proofs.Laws.Tasks.{sized_to, solid_block}
 use Rattle.model.proofs.Laws.Limits.{limits_to}
 use Rattle.model.proofs.Laws.Cells.{interval_ends}
-use Rattle.model.proofs.Laws.Parts.{get_d_list}
-use Rattle.model.proofs.Laws.WriteBack.{count_listed}
 use Rattle.model.proofs.Laws.Clauses.{clauses_to}
 use Rattle.model.proofs.Laws.ReadBack.{get_d_in}
-use Rattle.model.proofs.Laws.Sound.{columns_said, listed_said, sound_length, sound_within}
+use Rattle.model.proofs.Laws.Sound.{listed_said, sound_within}
+use Rattle.column.specs.Part.{listed_in}
+use Rattle.column.specs.Laws.Lent.{lent, listed_lent}
 use Rattle.task.specs.Blocks.{seen, Same}
 use Rattle.task.specs.Laws.Blocks.{same_seen, block_ready as ready}
 use Rattle.task.specs.declared.Block.{Block}
+use Rattle.task.specs.declared.Task.{Task}
+use Rattle.record.specs.declared.checked.SoundRecord.{SoundRecord}
 use Rattle.listing.specs.Bottoms.{lift, lowered, Standing}
-use Rattle.listing.specs.Arrays.{max_runs, read, Room, Lowerable, bottom_at, top_at, Meetable, Met}
-use Rattle.listing.specs.Columns.{Given, OfKind, On, OnAll, Startable, Started, LiftedTo, Nextable, Lifted, Ranged}
+use Rattle.listing.specs.Lists.{IsLifted, Meetable, Met}
+use Rattle.listing.specs.Columns.{Given, OfKind, On, OnAll, AllStanding, ranges_in}
 use Rattle.listing.specs.Laws.Bottoms.{whole_cells}
-use Rattle.listing.specs.Laws.Blocks.{column_apart, column_grid, listed_spaced, listed_bound, listed_step, listed_start, listed_next, listed_all, none_stand}
-use Rattle.listing.specs.Laws.Arrays.{length_read, ends_named, few_runs}
-use Rattle.listing.specs.Laws.Walk.{height_step, listed_at}
+use Rattle.listing.specs.Laws.Blocks.{column_apart, column_grid, listed_spaced, listed_bound, listed_step, listed_next, listed_all, none_stand}
+use Rattle.listing.specs.Laws.Lists.{ends_all}
+use Rattle.listing.specs.Laws.Walk.{height_step}
 
 -- ---- the device columns
 
@@ -44,28 +46,11 @@ module _ (r : List ℕ) (s : sound r ≡ true) where
   pub some_columns : 1 ≤ columns (device_of r)
   some_columns = (limits_to (device_of r) (book_of r) (sound_within r s)).columns_one
 
-  kind_here : (c : ℕ) → c < columns (device_of r) → kind (device_of r) c ≡ get_or r (kinds_at + c) 0
-  unfolding kind device_of
-  kind_here c l = get_d_list (λ c. get_or r (kinds_at + c) 0) (get_or r columns_at 0) c 0 (omega (arith, columns_said r))
-
-  -- n is the record's count of columns
-  module _ (n c k : ℕ) (e : n ≡ get_or r columns_at 0) where
-    pub kind_off : n ≤ c → OfKind r c k false
-    kind_off l = record { yes = λ q. absurd (false≢true q); none = λ q g h. omega (arith, columns_said r) }
-
-    pub kind_at : c < n → (m : ℕ) → m ≡ k → OfKind r c k (eqb (get_or r (kinds_at + c) 0) m)
-    kind_at l m h =
-        let on : c < columns (device_of r) = omega (arith, columns_said r) in
-        record {
-          yes = λ q. (on, kind_here c on ∙ eqb-true (get_or r (kinds_at + c) 0) m q ∙ h);
-          none = λ q g u. eqb-false (get_or r (kinds_at + c) 0) m q (sym (kind_here c on) ∙ u ∙ sym h);
-        }
-
-    -- its kind byte is there
-    pub kind_within : c < n → kinds_at + c < length r
-    kind_within l = omega (arith, sound_length r s, few_columns, columns_said r)
-
 -- ---- the blocks of the task
+
+-- a sound record and a task, as the code has them
+pub given_of : (r : SoundRecord) (t : Task) → Given r.bytes.now t.bytes.now
+given_of r t = record { sound = r.sound; sized = t.sized; formed = t.well_formed }
 
 module _ (r t : List ℕ) (g : Given r t) where
   pub some_blocks : 1 ≤ blocks t
@@ -77,144 +62,94 @@ module _ (r t : List ℕ) (g : Given r t) where
   pub block_ready : (k : ℕ) → k < blocks t → (block_size * k + block_size ≤ length t) × ((block t k).kind ≤ max_kind)
   block_ready k l = ready t k g.formed l
 
-  pub first_ready : (block_size * 0 + block_size ≤ length t) × ((block t 0).kind ≤ max_kind)
-  first_ready = block_ready 0 some_blocks
-
-  pub column_small : (k : ℕ) (b : Block) → k < blocks t → Same b (block t k) → b.column < max_columns
-  column_small k b l s = omega (arith, s.column, (solid_block t g.formed k l).column)
-
-  module _ (p k : ℕ) (l : k < blocks t) (b : Block) (s : Same b (block t k)) (q : Bool) (o : OfKind r (p + b.column) (number_of b.kind) q) where
+-- whether each block has a column of its kind, block by block
+module _ (r t : List ℕ) (p k : ℕ) where
+  module _ (l : k < blocks t) (b : Block) (s : Same b (block t k)) (q : Bool) (o : OfKind r (p + b.column) (number_of b.kind) q) where
     pub on_next : ((j : ℕ) → j < k → On r t p j) → q ≡ true → (j : ℕ) → j < k + 1 → On r t p j
     on_next h e j i = last_or (On r t p) k j (omega arith) (h j) (rw (s.column, s.kind) at (o.yes e))
 
     pub on_none : q ≡ false → OnAll r t p false
     on_none e = record { yes = λ u. absurd (false≢true u); none = λ u. (k, l, λ (a, c). (rw (s.column, s.kind) at (o.none e)) a c) }
 
-  pub on_all : (p k : ℕ) → blocks t ≤ k → ((j : ℕ) → j < k → On r t p j) → OnAll r t p true
-  on_all p k l h = record { yes = λ u j i. h j (omega arith); none = λ u. absurd (true≢false u) }
+  pub on_all : blocks t ≤ k → ((j : ℕ) → j < k → On r t p j) → OnAll r t p true
+  on_all l h = record { yes = λ u j i. h j (omega arith); none = λ u. absurd (true≢false u) }
 
 -- ---- the start of the list
 
--- s is the height of the first block, and 255 rounded down to it is in reach
+-- 255 rounded down to a step is in reach
 pub start_small : (s : ℕ) → 1 ≤ s → (2 * max_rows - 1) / s * s ≤ 2 * max_rows - 1
 start_small s p = omega (arith, div-add-mod' (2 * max_rows - 1) s)
 
-pub start_of : (t F T : List ℕ) (b : Block) (s : ℕ) → Startable t F T → Same b (block t 0) → s ≡ height (seen b).kind
-    → Started t (set F 0 lift) (set T 0 (lift + (2 * max_rows - 1) / s * s)) 1 s
-unfolding read
-start_of t F T b s g e h = record {
-  height_is = h ∙ ap height e.kind;
-  count_is = refl;
-  runs_are = rw (get_or-set_same F 0 lift 0 (omega (arith, g.room.firsts)), get_or-set_same T 0 (lift + (2 * max_rows - 1) / s * s) 0 (omega (arith, g.room.lasts)));
-}
+-- ---- the intervals that a column's part lists
 
-pub start_lifted : (r t F T : List ℕ) (p n s : ℕ) → Started t F T n s → LiftedTo r t p 0 n s F T
-start_lifted r t F T p n s g = record { few = omega (arith, g.count_is); listed = rw g.runs_are (listed_start (device_of r) (book_of r) t p s g.height_is) }
+pub lent_lists : (r : List ℕ) (c : ℕ) (p : List ℕ) (n : ℕ) → sound r ≡ true → c < max_columns → p ≡ lent r c → n ≡ count_of r c → listed_in p n ≡ listed_intervals r c
+lent_lists r c p n s q e m = let x = clauses_to r s in rw (e, m, listed_lent r c x.size q (x.few_intervals c q))
 
 -- ---- one block more
 
--- in steps of 2 or more there are few runs
-few_listed : (r t : List ℕ) (p k s n : ℕ) (F T : List ℕ) → Standing (device_of r) (book_of r) t p k s (read n F T) → n ≤ max_runs
-few_listed r t p k s n F T g =
-    let two = (listed_step (device_of r) (book_of r) t p k s (read n F T) g).0 in
-    omega (arith, length_read n F T, few_runs s (read n F T) two g.canon (listed_bound (device_of r) (book_of r) t p k s (read n F T) g))
+-- the column of block k, as the code has it
+pub on_column : (r t : List ℕ) (p k : ℕ) (b : Block) → sound r ≡ true → On r t p k → Same b (block t k) → p + b.column < max_columns
+on_column r t p k b s on same = omega (arith, same.column, on.0, few_columns r s)
 
-module _ (r t : List ℕ) (p k n s : ℕ) (F T : List ℕ) (x : Nextable r t p k n s F T) where
-  given : Given r t
-  given = x.liftable.given
+pub next_steps : {d : Device} {b : Book} {t : List ℕ} {p k s : ℕ} {L : List Run} → Standing d b t p k s L → (kind h : ℕ) → h ≡ height kind → Step s × Step h
+next_steps {d} {b} {t} {p} {k} {s} {L} g kind h e = (omega (arith, listed_step d b t p k s L g), rw e (height_step kind))
 
-  on : On r t p k
-  on = x.liftable.on k x.next
-
-  step_small : Step s
-  step_small = omega (arith, listed_step (device_of r) (book_of r) t p k s (read n F T) x.lifted.listed)
+module _ (r t : List ℕ) (p k s : ℕ) (L : List Run) (given : Given r t) (next : k < blocks t) (on : On r t p k)
+    (g : Standing (device_of r) (book_of r) t p k s L) (b : Block) (same : Same b (block t k)) where
+  abbrev c : ℕ
+  c = p + (block t k).column
 
   -- the column's intervals are those of the book
-  listed_free : listed_intervals r (p + (block t k).column) ≡ intervals (device_of r) (book_of r) (p + (block t k).column)
-  listed_free = listed_said r (clauses_to r given.sound) (p + (block t k).column) (omega (arith, on.0, few_columns r given.sound))
+  listed_free : listed_intervals r c ≡ intervals (device_of r) (book_of r) c
+  listed_free = listed_said r (clauses_to r given.sound) c (omega (arith, on.0, few_columns r given.sound))
 
-  ends_at : (j : ℕ) → j < count_of r (p + (block t k).column)
-      → (bottom_at r (p + (block t k).column) j < top_at r (p + (block t k).column) j) × (top_at r (p + (block t k).column) j ≤ 2 * max_rows)
-  ends_at j l =
-      let c = p + (block t k).column in
-      let e = listed_at r c j (interval 0 0) l in
-      let m : j < length (intervals (device_of r) (book_of r) c) = omega (arith, count_listed r c, ap length listed_free) in
-      let f = sym (ap (λ (L : List Interval). get_or L j (interval 0 0)) listed_free) ∙ e in
-      let (a, b) = interval_ends (device_of r) (book_of r) c (get_or (intervals (device_of r) (book_of r) c) j (interval 0 0)) (get_d_in (intervals (device_of r) (book_of r) c) j (interval 0 0) m) in
-      let h = top_le (device_of r) c in
-      let q = (limits_to (device_of r) (book_of r) (sound_within r given.sound)).rows in
-      (omega (arith, rw f at a), omega (arith, rw f at b))
-
-  meetable_block : (L H : List ℕ) → Room L H → read n L H ≡ read n F T → Meetable r (p + (block t k).column) (block t k) L H n s
-  meetable_block L H m e =
-      let c = p + (block t k).column in
+  meetable_block : Meetable (listed_intervals r c) (block t k) L s
+  meetable_block =
       let w = sound_within r given.sound in
-      let z = solid_block t given.formed k x.next in
-      let g = x.lifted.listed in
+      let z = solid_block t given.formed k next in
       record {
-        size = sound_length r given.sound;
-        column = omega (arith, on.0, few_columns r given.sound);
-        few = (clauses_to r given.sound).few_intervals c (omega (arith, on.0, few_columns r given.sound));
         apart = rw listed_free (column_apart (device_of r) (book_of r) c);
         grid = rw listed_free (rw on.1 at (column_grid (device_of r) (book_of r) c w));
-        ends = ends_at;
+        ends = rw listed_free (λ j i l.
+            let x = interval_ends (device_of r) (book_of r) c (get_or (intervals (device_of r) (book_of r) c) j i) (get_d_in (intervals (device_of r) (book_of r) c) j i l) in
+            (x.0, omega (arith, x.1, top_le (device_of r) c, (limits_to (device_of r) (book_of r) w).rows)));
         full = z.full;
         below = z.below;
         whole = whole_cells (block t k) z;
-        room = m;
-        count = x.lifted.few;
-        step = step_small;
-        canon = rw e g.canon;
-        spaced = rw e (listed_spaced (device_of r) (book_of r) t p k s (read n F T) g);
-        bound = λ y u. listed_bound (device_of r) (book_of r) t p k s (read n F T) g y (rw e at u);
+        step = omega (arith, listed_step (device_of r) (book_of r) t p k s L g);
+        canon = g.canon;
+        spaced = listed_spaced (device_of r) (book_of r) t p k s L g;
+        bound = listed_bound (device_of r) (book_of r) t p k s L g;
       }
 
-  module _ (b : Block) (same : Same b (block t k)) where
-    pub on_column : p + b.column < max_columns
-    on_column = omega (arith, same.column, on.0, few_columns r given.sound)
+  -- in the intervals of the block's column, as the code reads them
+  module _ (I : List Interval) (e : I ≡ listed_intervals r (p + b.column)) where
+    pub meetable : Meetable I (seen b) L s
+    meetable = rw e (subst (λ (a : model.Block). Meetable (listed_intervals r (p + a.column)) a L s) (sym (same_seen b (block t k) same)) meetable_block)
 
-    -- the list that was copied can be met with the block
-    pub meetable : (L H : List ℕ) → Room L H → read n L H ≡ read n F T → Meetable r (p + b.column) (seen b) L H n s
-    meetable L H m e = subst (λ (a : model.Block). Meetable r (p + a.column) a L H n s) (sym (same_seen b (block t k) same)) (meetable_block L H m e)
-
-    pub next_steps : (h : ℕ) → h ≡ height (seen b).kind → Step s × Step h
-    next_steps h e = (step_small, rw e (height_step (seen b).kind))
-
-    pub next_lifted : (L H G U : List ℕ) (o h l : ℕ) → read n L H ≡ read n F T → Met r (p + b.column) (seen b) s (read n L H) (read o G U) → h ≡ height (seen b).kind
-        → Lcm s h l → LiftedTo r t p (k + 1) o l G U
-    next_lifted L H G U o h l e m q c =
+    pub next_listed : (O : List Run) (h l : ℕ) → Met I (seen b) s L O → h ≡ height (seen b).kind → Lcm s h l → Standing (device_of r) (book_of r) t p (k + 1) l O
+    next_listed O h l m q c =
         let w = sound_within r given.sound in
         let lcm = rw (q, same.kind) at c in
-        let met = rw e at (subst (λ (a : model.Block). Met r (p + a.column) a s (read n L H) (read o G U)) (same_seen b (block t k) same) m) in
-        let g = listed_next (device_of r) (book_of r) t p w given.formed k x.next on.0 on.1 s l (read n F T) (read o G U) x.lifted.listed lcm (rw listed_free at (met l lcm)) in
-        record { few = few_listed r t p (k + 1) l o G U (rw add-one g); listed = rw add-one g }
+        let met = subst (λ (a : model.Block). Met (listed_intervals r (p + a.column)) a s L O) (same_seen b (block t k) same) (rw e at m) in
+        rw add-one (listed_next (device_of r) (book_of r) t p w given.formed k next on.0 on.1 s l L O g lcm (rw listed_free at (met l lcm)))
 
 -- ---- all blocks
 
-pub lifted_all : (r t : List ℕ) (p k n s : ℕ) (F T : List ℕ) → k ≡ blocks t → LiftedTo r t p k n s F T → Lifted r t p F T n
-lifted_all r t p k n s F T e g = record { step = s; lifted = rw e at g }
+pub all_standing : (r t : List ℕ) (p k s : ℕ) (L : List Run) → k ≡ blocks t → Standing (device_of r) (book_of r) t p k s L → AllStanding r t p L
+all_standing r t p k s L e g = record { step = s; listed = rw e at g }
 
-module _ (r t : List ℕ) (p : ℕ) (F T : List ℕ) (n : ℕ) where
-  pub lowerable : Room F T → Lifted r t p F T n → Lowerable F T n
-  lowerable m g =
-      let l = g.lifted.listed in
-      let low : (y : ℕ) → Mem g.step y (read n F T) → lift ≤ y = λ y h. (listed_bound (device_of r) (book_of r) t p (blocks t) g.step (read n F T) l y h).0 in
-      record {
-        room = m;
-        few = g.lifted.few;
-        lifted = λ i q. let (a, b) = ends_named g.step 0 n i F T l.canon q in (low (get_or F i 0) a, low (get_or T i 0) b);
-      }
+module _ (r t : List ℕ) (p : ℕ) (L : List Run) (g : AllStanding r t p L) where
+  pub all_lifted : All IsLifted L
+  all_lifted =
+      ends_all (λ y. lift ≤ y) g.step 0 L g.listed.canon (λ y m. (listed_bound (device_of r) (book_of r) t p (blocks t) g.step L g.listed y m).0)
 
   -- THEOREM: the lifted bottoms, lowered, are the task's ranges in the column
-  pub ranged : (G U : List ℕ) → Given r t → Lifted r t p F T n → read n G U ≡ map lowered (read n F T) → Ranged r t p G U n
-  ranged G U x g e = record {
-    few = g.lifted.few;
-    runs = e ∙ listed_all (device_of r) (book_of r) t p (sound_within r x.sound) x.formed (some_blocks r t x) (blocks t) g.step (read n F T) refl g.lifted.listed;
-  }
+  pub ranged : Given r t → map lowered L ≡ ranges_in (device_of r) (book_of r) t p
+  ranged x = listed_all (device_of r) (book_of r) t p (sound_within r x.sound) x.formed (some_blocks r t x) (blocks t) g.step L refl g.listed
 
 -- where a block has no column of its kind, there is none
-pub ranged_none : (r t : List ℕ) (p : ℕ) (F T : List ℕ) (q : Bool) → Given r t → OnAll r t p q → q ≡ false → Ranged r t p F T 0
-unfolding read
-ranged_none r t p F T q x o e =
+pub ranged_none : (r t : List ℕ) (p : ℕ) (q : Bool) → Given r t → OnAll r t p q → q ≡ false → [] ≡ ranges_in (device_of r) (book_of r) t p
+ranged_none r t p q x o e =
     let (k, l, h) = o.none e in
-    record { few = omega arith; runs = none_stand (device_of r) (book_of r) t p (sound_within r x.sound) x.formed (some_blocks r t x) k l (λ a b. h (a, b)) }
+    none_stand (device_of r) (book_of r) t p (sound_within r x.sound) x.formed (some_blocks r t x) k l (λ a b. h (a, b))

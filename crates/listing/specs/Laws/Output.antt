@@ -1,12 +1,12 @@
 -- MODEL 10.6 and 12.6: the laws of the bytes of a listing. Assumes nothing.
-use Rattle.std.specs.Prelude.{ℕ, ◌+◌, ◌*◌, ◌≤◌, ◌<◌, ◌≡◌, refl, ◌⊎◌, true, false, pos, neg_ℤ, get_or, set}
+use Rattle.std.specs.Prelude.{ℕ, ◌+◌, ◌*◌, ◌≤◌, ◌<◌, ◌≡◌, refl, ◌⊎◌, true, false, pos, neg_ℤ, get_or, set, take, All, Some, None}
 use Rattle.std.proofs.Math.Path.{sym, ap}
 use Rattle.std.proofs.Common.{ap₂, ◌∙◌, inl, inr, arith}
 use mathlib.Core.List.{List, [], ◌∷◌, ◌++◌, map, append-nil}
 use borrow.Author.Tests.{le-ltb}
 use Rattle.std.proofs.Math.Numerals.{add-one}
 use Rattle.std.proofs.Math.ListN.{length, length-append}
-use Rattle.std.proofs.lemmas.List.{length-map}
+use Rattle.std.proofs.lemmas.List.{length-map, length-take, take_more, take_all}
 use Rattle.runs.specs.Runs.{Run, run}
 use Rattle.runs.specs.Laws.Runs.{runs_lists}
 use Rattle.model.specs.Limits.{words, max_columns, range_size, list_room}
@@ -26,11 +26,10 @@ use Rattle.model.proofs.Laws.Step.{list_done}
 use Rattle.model.proofs.Laws.Steps.{step_bounds, fits_steps}
 use Rattle.model.proofs.Laws.NoPosition.{ranges_none_iff}
 use Rattle.model.proofs.Laws.Sound.{sound_within}
-use Rattle.listing.specs.Arrays.{max_runs, read, Room}
-use Rattle.listing.specs.Columns.{Given, ranges_in, Ranged}
-use Rattle.listing.specs.Output.{Writable, AllWritable, column_bytes, ranges_below, Answers}
-use Rattle.listing.specs.declared.output.Listed.TheVariants.{Ranges, NoPosition}
-use Rattle.listing.specs.Laws.Arrays.{length_read, ends_named}
+use Rattle.listing.specs.Lists.{max_runs}
+use Rattle.listing.specs.Columns.{Given, ranges_in}
+use Rattle.listing.specs.Output.{IsSmall, Writable, AllWritable, column_bytes, ranges_below, Answers}
+use Rattle.listing.specs.Laws.Lists.{ends_all}
 use Rattle.listing.specs.Laws.Column.{some_blocks, few_columns}
 
 -- ---- one range
@@ -55,45 +54,50 @@ range_written o at p s a e h =
 
 -- ---- the ranges of a column
 
-column_more : (p s i : ℕ) (F T : List ℕ) → column_bytes p s (read (i + 1) F T) ≡ column_bytes p s (read i F T) ++ range_bytes (range_of p s (run (get_or F i 0) (get_or T i 0)))
-unfolding read join_in
-column_more p s i F T =
-    let q = range_of p s (run (get_or F i 0) (get_or T i 0)) in
-    rw (add-one, map_append (range_of p s) (read i F T) (run (get_or F i 0) (get_or T i 0) ∷ []), join_append range_bytes (map (range_of p s) (read i F T)) (q ∷ []), append-nil (range_bytes q))
+column_more : (p s i : ℕ) (L : List Run) (q : Run) → i < length L → get_or L i q ≡ q → column_bytes p s (take (i + 1) L) ≡ column_bytes p s (take i L) ++ range_bytes (range_of p s q)
+unfolding join_in
+column_more p s i L q l e =
+    rw (take_more L i q l, e, map_append (range_of p s) (take i L) (q ∷ []), join_append range_bytes (map (range_of p s) (take i L)) (range_of p s q ∷ []), append-nil (range_bytes (range_of p s q)))
 
 pub length_column : (p s : ℕ) (L : List Run) → length (column_bytes p s L) ≡ range_size * length L
 length_column p s L = length_ranges (map (range_of p s) L) ∙ rw (length-map L (range_of p s))
 
 -- the first i of them are written
-abbrev pub Writing : List ℕ → ℕ → ℕ → ℕ → List ℕ → List ℕ → ℕ → List ℕ → Type 0
-Writing o₀ n p s F T i o = o ≡ splice o₀ (range_size * n) (range_size * i) (column_bytes p s (read i F T))
+abbrev pub Writing : List ℕ → ℕ → ℕ → ℕ → List Run → ℕ → List ℕ → Type 0
+Writing o₀ n p s L i o = o ≡ splice o₀ (range_size * n) (range_size * i) (column_bytes p s (take i L))
 
-module _ (o₀ : List ℕ) (n p s : ℕ) (F T : List ℕ) (k : ℕ) (w : AllWritable (length o₀) n p s F T k) where
-  pub writing_start : Writing o₀ n p s F T 0 o₀
-  unfolding read join_in
+module _ (o₀ : List ℕ) (n p s : ℕ) (L : List Run) (w : AllWritable (length o₀) n p s L) where
+  pub writing_start : Writing o₀ n p s L 0 o₀
+  unfolding join_in
   writing_start = sym (splice_none o₀ (range_size * n))
 
-  pub writing_length : (i : ℕ) (o : List ℕ) → i ≤ k → Writing o₀ n p s F T i o → length o ≡ length o₀
+  written_first : (i : ℕ) → i ≤ length L → length (column_bytes p s (take i L)) ≡ range_size * i
+  written_first i l = length_column p s (take i L) ∙ ap (λ (x : ℕ). range_size * x) (simp length-take (omega arith))
+
+  pub writing_length : (i : ℕ) (o : List ℕ) → i ≤ length L → Writing o₀ n p s L i o → length o ≡ length o₀
   writing_length i o l e =
-      ap length e ∙ length_splice o₀ (range_size * n) (range_size * i) (column_bytes p s (read i F T)) (omega (arith, w.room)) (length_column p s (read i F T) ∙ ap (λ (x : ℕ). range_size * x) (length_read i F T))
+      ap length e ∙ length_splice o₀ (range_size * n) (range_size * i) (column_bytes p s (take i L)) (omega (arith, w.room)) (written_first i l)
 
-  pub writable : (i : ℕ) (o : List ℕ) → i < k → Writing o₀ n p s F T i o → Writable (length o) (n + i) p s (get_or F i 0) (get_or T i 0)
-  writable i o l e = record {
-    room = omega (arith, w.room, writing_length i o (omega arith) e);
-    column_fits = w.column_fits;
-    step_fits = w.step_fits;
-    first_fits = (w.fits i l).0;
-    last_fits = (w.fits i l).1;
-  }
+  -- q is run i
+  module _ (i : ℕ) (q : Run) (l : i < length L) (is : get_or L i q ≡ q) where
+    pub writable : (o : List ℕ) → Writing o₀ n p s L i o → Writable (length o) (n + i) p s q
+    writable o e = record {
+      room = omega (arith, w.room, writing_length i o (omega arith) e);
+      column_fits = w.column_fits;
+      step_fits = w.step_fits;
+      fits = rw is at (w.fits i q l);
+    }
 
-  pub writing_next : (i : ℕ) (o o' : List ℕ) → i < k → Writing o₀ n p s F T i o
-      → o' ≡ splice o (range_size * (n + i)) range_size (range_bytes (range_of p s (run (get_or F i 0) (get_or T i 0)))) → Writing o₀ n p s F T (i + 1) o'
-  writing_next i o o' l e h =
-      let u : range_size * (n + i) ≡ range_size * n + range_size * i = omega arith in
-      let v : range_size * (i + 1) ≡ range_size * i + range_size = omega arith in
-      h ∙ rw (e, u, v, column_more p s i F T)
-      (splice_more o₀ (range_size * n) (range_size * i) range_size (column_bytes p s (read i F T)) (range_bytes (range_of p s (run (get_or F i 0) (get_or T i 0)))) (omega (arith, w.room))
-      (length_column p s (read i F T) ∙ ap (λ (x : ℕ). range_size * x) (length_read i F T)))
+    pub writing_next : (o o' : List ℕ) → Writing o₀ n p s L i o
+        → o' ≡ splice o (range_size * (n + i)) range_size (range_bytes (range_of p s q)) → Writing o₀ n p s L (i + 1) o'
+    writing_next o o' e h =
+        let u : range_size * (n + i) ≡ range_size * n + range_size * i = omega arith in
+        let v : range_size * (i + 1) ≡ range_size * i + range_size = omega arith in
+        h ∙ rw (e, u, v, column_more p s i L q l is)
+        (splice_more o₀ (range_size * n) (range_size * i) range_size (column_bytes p s (take i L)) (range_bytes (range_of p s q)) (omega (arith, w.room)) (written_first i (omega arith)))
+
+  pub writing_done : (o : List ℕ) → Writing o₀ n p s L (length L) o → o ≡ splice o₀ (range_size * n) (range_size * length L) (column_bytes p s L)
+  writing_done o e = rw (take_all (length L) L (omega arith)) at e
 
 -- ---- all columns
 
@@ -129,44 +133,42 @@ module _ (r t : List ℕ) (g : Given r t) (o₀ : List ℕ) (big : list_room ≤
       ap length (w.bytes ∙ over_is (join_in range_bytes (ranges_below r t p)) o₀)
       ∙ length_splice o₀ 0 (length (join_in range_bytes (ranges_below r t p))) (join_in range_bytes (ranges_below r t p)) (omega arith) refl
 
-  -- the numbers of a column's runs are small
-  module _ (p n k : ℕ) (F T : List ℕ) (x : Ranged r t p F T k) where
-    small : (i : ℕ) → i < k → (get_or F i 0 < words) × (get_or T i 0 < words)
-    small i l =
+  -- the ranges of column p are L
+  module _ (p n : ℕ) (L : List Run) (x : L ≡ ranges_in (device_of r) (book_of r) t p) (few : length L ≤ max_runs) where
+    -- their numbers are small
+    small : All IsSmall L
+    small =
         let y = runs_lists (step t) (fits (device_of r) (book_of r) t p) (fits_steps (device_of r) (book_of r) t p (some_blocks r t g)) (half_rows (device_of r)) in
         let rows = (limits_to (device_of r) (book_of r) (sound_within r g.sound)).rows in
-        let (a, b) = ends_named (step t) 0 k i F T (rw x.runs y.canon) l in
-        (omega (arith, (y.named (get_or F i 0)).0 (rw x.runs at a)), omega (arith, (y.named (get_or T i 0)).0 (rw x.runs at b)))
+        ends_all (λ z. z < words) (step t) 0 L (rw x y.canon) (λ z m. omega (arith, (y.named z).0 (rw x at m)))
 
-    module _ (o : List ℕ) (w : Written r t o₀ p n o) (here : p < columns (device_of r)) where
-      pub all_writable : (s : ℕ) → s ≡ step t → Room F T → AllWritable (length o) n p s F T k
-      all_writable s e m =
+    module _ (o : List ℕ) (w : Written r t o₀ p n o) (here : p < columns (device_of r)) (s : ℕ) (e : s ≡ step t) where
+      pub all_writable : AllWritable (length o) n p s L
+      all_writable =
           let c = few_columns r g.sound in
           record {
-            arrays = m;
-            count = x.few;
-            room = omega (arith, written_length p n o w, w.few, x.few);
+            room = omega (arith, written_length p n o w, w.few);
             column_fits = omega arith;
             step_fits = omega (arith, step_bounds t (some_blocks r t g));
             fits = small;
           }
 
-      pub written_next : (s : ℕ) (o' : List ℕ) → s ≡ step t → o' ≡ splice o (range_size * n) (range_size * k) (column_bytes p s (read k F T)) → Written r t o₀ (p + 1) (n + k) o'
+      pub written_next : (o' : List ℕ) → o' ≡ splice o (range_size * n) (range_size * length L) (column_bytes p s L) → Written r t o₀ (p + 1) (n + length L) o'
       unfolding join_below
-      written_next s o' e h =
+      written_next o' h =
           let K = ranges_below r t p in
           let M = map (range_of p (step t)) (ranges_in (device_of r) (book_of r) t p) in
           let count : n ≡ length K = w.count in
-          let kM : k ≡ length M = sym (length_read k F T) ∙ ap length x.runs ∙ sym (length-map (ranges_in (device_of r) (book_of r) t p) (range_of p (step t))) in
+          let kM : length L ≡ length M = ap length x ∙ sym (length-map (ranges_in (device_of r) (book_of r) t p) (range_of p (step t))) in
           let a : length (join_in range_bytes K) ≡ range_size * n = length_ranges K ∙ ap (λ (z : ℕ). range_size * z) (sym count) in
-          let b : length (join_in range_bytes M) ≡ range_size * k = length_ranges M ∙ ap (λ (z : ℕ). range_size * z) (sym kM) in
+          let b : length (join_in range_bytes M) ≡ range_size * length L = length_ranges M ∙ ap (λ (z : ℕ). range_size * z) (sym kM) in
           let room : range_size * n ≤ length o₀ = omega (arith, w.few, few_columns r g.sound) in
-          let same : column_bytes p s (read k F T) ≡ join_in range_bytes M = rw (e, x.runs) in
+          let same : column_bytes p s L ≡ join_in range_bytes M = rw (e, x) in
           record {
             within = omega arith;
-            few = omega (arith, w.few, x.few);
+            few = omega (arith, w.few);
             count = rw (add-one, length-append K M) (omega arith);
-            bytes = h ∙ rw (w.bytes, same, add-one, join_append range_bytes K M) (over_more (join_in range_bytes K) (join_in range_bytes M) o₀ (range_size * n) (range_size * k) a b room);
+            bytes = h ∙ rw (w.bytes, same, add-one, join_append range_bytes K M) (over_more (join_in range_bytes K) (join_in range_bytes M) o₀ (range_size * n) (range_size * length L) a b room);
           }
 
   -- ---- the answer
@@ -177,7 +179,7 @@ module _ (r t : List ℕ) (g : Given r t) (o₀ : List ℕ) (big : list_room ≤
   nowhere e = rw (g.sized, g.formed, le-ltb (length o₀) list_room big, e)
 
   -- a number of ranges is that of the model's
-  pub count_is : (n : ℕ) (o : List ℕ) → Answers (Ranges n) (device_of r) (book_of r) t o₀ o → n ≡ length (ranges (device_of r) (book_of r) t)
+  pub count_is : (n : ℕ) (o : List ℕ) → Answers (Some n) (device_of r) (book_of r) t o₀ o → n ≡ length (ranges (device_of r) (book_of r) t)
   count_is n o h = go (true_or_false (no_position (device_of r) (book_of r) t))
     where
       go : (no_position (device_of r) (book_of r) t ≡ true) ⊎ (no_position (device_of r) (book_of r) t ≡ false) → n ≡ length (ranges (device_of r) (book_of r) t)
@@ -192,7 +194,7 @@ module _ (r t : List ℕ) (g : Given r t) (o₀ : List ℕ) (big : list_room ≤
   length_none [] e = refl
   length_none (q ∷ K) e = absurd (omega arith)
 
-  pub answer_none : (p n : ℕ) (o : List ℕ) → columns (device_of r) ≤ p → Written r t o₀ p n o → n ≡ 0 → Answers NoPosition (device_of r) (book_of r) t o₀ o
+  pub answer_none : (p n : ℕ) (o : List ℕ) → columns (device_of r) ≤ p → Written r t o₀ p n o → n ≡ 0 → Answers None (device_of r) (book_of r) t o₀ o
   unfolding join_in
   answer_none p n o l w z =
       let e = whole p n o l w in
@@ -200,7 +202,7 @@ module _ (r t : List ℕ) (g : Given r t) (o₀ : List ℕ) (big : list_room ≤
       let q = nowhere ((ranges_none_iff (device_of r) (book_of r) t (some_blocks r t g)).0 (sym e ∙ none)) in
       record { answer_is = rw q; output_is = rw q (w.bytes ∙ rw none (over_is [] o₀ ∙ splice_none o₀ 0)) }
 
-  pub answer_some : (p n : ℕ) (o : List ℕ) → columns (device_of r) ≤ p → Written r t o₀ p n o → (n ≡ 0 → ⊥) → Answers (Ranges n) (device_of r) (book_of r) t o₀ o
+  pub answer_some : (p n : ℕ) (o : List ℕ) → columns (device_of r) ≤ p → Written r t o₀ p n o → (n ≡ 0 → ⊥) → Answers (Some n) (device_of r) (book_of r) t o₀ o
   answer_some p n o l w h =
       let e = whole p n o l w in
       let some = is_false (no_position (device_of r) (book_of r) t) (λ z. h (w.count ∙ ap length (e ∙ (ranges_none_iff (device_of r) (book_of r) t (some_blocks r t g)).1 z))) in

@@ -1,32 +1,34 @@
--- `listing::columns::meet_next` meets its contract, by `meetable` before the walk and `next_lifted` after it. Assumes nothing.
-use mathlib.Core.Path.{◌∙◌}
-use native.Mathlib.Omega.{arith}
-use Rattle.listing.specs.Laws.Column.{block_ready, on_column, meetable, next_steps, next_lifted}
+-- `listing::columns::meet_next` meets its contract, by `meetable` before the walk and `next_listed` after it. Assumes nothing.
+use Rattle.std.proofs.Common.{◌+◌, arith}
+use Rattle.column.specs.Part.{listed_in}
+use Rattle.task.specs.Blocks.{seen}
+use Rattle.listing.specs.Laws.Column.{given_of, on_column, lent_lists, meetable, next_steps, next_listed}
 use Rattle.listing.proofs.columns.meet_next.Goals as goal
 
-pub block_at-b-requires : goal.block_at-b-requires
-block_at-b-requires c = let s = c in block_ready s.args.record.now s.args.task.now s.requires.0.liftable.given s.args.k s.requires.0.next
+pub column-column-requires : goal.column-column-requires
+column-column-requires c =
+    on_column c.args.record.bytes.now c.args.task.bytes.now c.args.p c.args.k c.block-b.result c.args.record.sound (c.requires.on c.args.k c.requires.next) c.block-b.ensures
 
 pub overflow_add-p : goal.overflow_add-p
 overflow_add-p c =
-    let s = c in
-    omega (arith, on_column s.args.record.now s.args.task.now s.args.p s.args.k s.args.list.count s.args.list.step s.args.firsts.now s.args.lasts.now s.requires.0 c.block_at-b.result c.block_at-b.ensures)
+    omega (arith, on_column c.args.record.bytes.now c.args.task.bytes.now c.args.p c.args.k c.block-b.result c.args.record.sound (c.requires.on c.args.k c.requires.next) c.block-b.ensures)
 
-pub meet_block-n-requires : goal.meet_block-n-requires
-meet_block-n-requires c =
-    let s = c in
-    let y = c.copy_runs in
-    (meetable s.args.record.now s.args.task.now s.args.p s.args.k s.args.list.count s.args.list.step s.args.firsts.now s.args.lasts.now s.requires.0 c.block_at-b.result c.block_at-b.ensures y.new.lows y.new.highs (record { firsts = y.auto.lows ∙ s.requires.1.firsts; lasts = y.auto.highs ∙ s.requires.1.lasts }) y.ensures, s.requires.0.room)
+pub meet_block-requires : goal.meet_block-requires
+meet_block-requires c =
+    meetable c.args.record.bytes.now c.args.task.bytes.now c.args.p c.args.k c.args.step c.args.list.now (given_of c.args.record c.args.task) c.requires.next
+    (c.requires.on c.args.k c.requires.next) c.requires.listed c.block-b.result c.block-b.ensures (listed_in c.column-column.result.part.now c.column-column.result.count)
+    (lent_lists c.args.record.bytes.now (c.args.p + c.block-b.result.column) _ _ c.args.record.sound
+    (on_column c.args.record.bytes.now c.args.task.bytes.now c.args.p c.args.k c.block-b.result c.args.record.sound (c.requires.on c.args.k c.requires.next) c.block-b.ensures)
+    c.column-column.ensures.part c.column-column.ensures.count)
 
 pub lcm-requires : goal.lcm-requires
-lcm-requires c =
-    let s = c in
-    next_steps s.args.record.now s.args.task.now s.args.p s.args.k s.args.list.count s.args.list.step s.args.firsts.now s.args.lasts.now s.requires.0 c.block_at-b.result c.block_at-b.ensures c.height.result c.height.ensures
+lcm-requires c = next_steps c.requires.listed (seen c.block-b.result).kind c.height.result c.height.ensures
 
 pub returns : goal.returns
 returns c =
-    let s = c in
-    let y = c.copy_runs in
-    let z = c.meet_block-n in
-    next_lifted s.args.record.now s.args.task.now s.args.p s.args.k s.args.list.count s.args.list.step s.args.firsts.now s.args.lasts.now s.requires.0 c.block_at-b.result c.block_at-b.ensures y.new.lows y.new.highs z.new.firsts z.new.lasts
-    z.result c.height.result c.lcm.result y.ensures z.ensures c.height.ensures c.lcm.ensures
+    next_listed c.args.record.bytes.now c.args.task.bytes.now c.args.p c.args.k c.args.step c.args.list.now (given_of c.args.record c.args.task) c.requires.next
+    (c.requires.on c.args.k c.requires.next) c.requires.listed c.block-b.result c.block-b.ensures (listed_in c.column-column.result.part.now c.column-column.result.count)
+    (lent_lists c.args.record.bytes.now (c.args.p + c.block-b.result.column) _ _ c.args.record.sound
+    (on_column c.args.record.bytes.now c.args.task.bytes.now c.args.p c.args.k c.block-b.result c.args.record.sound (c.requires.on c.args.k c.requires.next) c.block-b.ensures)
+    c.column-column.ensures.part c.column-column.ensures.count)
+    _ c.height.result c.lcm.result c.meet_block.ensures c.height.ensures c.lcm.ensures

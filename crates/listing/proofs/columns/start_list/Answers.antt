@@ -1,18 +1,12 @@
--- `listing::columns::start_list` meets its contract. Assumes nothing.
-use native.Mathlib.Omega.{arith}
+-- `listing::columns::start_list` meets its contract: a task has a first block, whose kind has a height. Assumes nothing.
+use Rattle.std.proofs.Common.{arith}
+use Rattle.model.specs.Kinds.{number_of}
 use Rattle.model.proofs.Laws.Columns.{height_pos}
-use Rattle.task.specs.Blocks.{seen}
-use Rattle.listing.specs.Laws.Column.{start_small, start_of}
+use Rattle.model.proofs.Laws.Tasks.{sized_to}
 use Rattle.listing.proofs.columns.start_list.Goals as goal
 
-pub nonzero_div-lasts : goal.nonzero_div-lasts
-nonzero_div-lasts c = omega (arith, c.height-step.ensures, height_pos (seen c.block_at.result).kind)
+pub block-requires : goal.block-requires
+block-requires c = (sized_to c.args.task.bytes.now c.args.task.sized).some_blocks
 
-pub overflow_mul-lasts-2 : goal.overflow_mul-lasts-2
-overflow_mul-lasts-2 c = omega (arith, start_small c.height-step.result (nonzero_div-lasts c))
-
-pub overflow_add-lasts : goal.overflow_add-lasts
-overflow_add-lasts c = omega (arith, start_small c.height-step.result (nonzero_div-lasts c))
-
-pub returns : goal.returns
-returns c = start_of c.args.task.now c.args.firsts.now c.args.lasts.now c.block_at.result c.height-step.result c.requires c.block_at.ensures c.height-step.ensures
+pub nonzero_div-step : goal.nonzero_div-step
+nonzero_div-step c = omega (arith, height_pos (number_of c.block.result.kind))

@@ -1,14 +1,13 @@
 -- `listing::walk::meet_block` meets its contract: the walk along two lists, by the laws of Laws/Walk. Assumes nothing.
-use Prim.Native.Nat.{◌+◌, ◌-◌}
+use Rattle.std.proofs.Common.{◌+◌, ◌-◌, length}
 use Rattle.task.specs.Blocks.{seen}
-use Rattle.listing.specs.Arrays.{read, Room}
+use Rattle.column.specs.Part.{listed_in}
 use Rattle.listing.specs.Laws.Walk.{Walking}
 use Rattle.listing.proofs.walk.meet_block.Given as goal
 
--- where the walk is at run i and interval j, n runs are written
+-- where the walk is at run i and interval j
 abbrev pub invariant-loop-i : goal.invariant-loop-i
-invariant-loop-i l =
-    Room l.firsts l.lasts × Walking l.record l.c (seen l.b) l.list.step (read l.list.count l.lows l.highs) l.i l.j (read l.n l.firsts l.lasts)
+invariant-loop-i l = Walking (listed_in l.column.part.now l.column.count) (seen l.b) l.step l.list l.i l.j l.met
 
 abbrev pub decreases-loop-i : goal.decreases-loop-i
-decreases-loop-i l = (l.list.count - l.i) + (l.count - l.j)
+decreases-loop-i l = (length l.list - l.i) + (l.column.count - l.j)

@@ -1,0 +1,81 @@
+-- The laws of lists of runs: the last of them, the ends of each, and how many there are. Assumes nothing.
+use Rattle.std.specs.Prelude.{ℕ, zero, suc, ◌+◌, ◌-◌, ◌*◌, ◌≤◌, ◌<◌, ◌≡◌, ◌⊎◌, List, [], ◌∷◌, ◌++◌, length, get_or, set, All}
+use Rattle.std.proofs.Common.{sym, ap, ◌∙◌, inl, inr, arith, take, length-take, get_or-take, mul-le-mul_left}
+use Rattle.std.proofs.Math.Seq.{take-set-lt}
+use borrow.Author.Tests.{eq-eqb, ne_eqb}
+use Rattle.runs.specs.Laws.Tests.{lt_or_ge}
+use Rattle.runs.specs.Runs.{Run, run, Steps, Mem, From, Canon, push}
+use Rattle.runs.specs.Laws.Canon.{count_above, from_least}
+use Rattle.runs.specs.Laws.Places.{run_at, run_named}
+use Rattle.model.specs.Limits.{max_rows}
+use Rattle.listing.specs.Bottoms.{lift}
+use Rattle.listing.specs.Lists.{max_runs}
+
+-- ---- the merging append at the end of a list
+
+module _ (s : ℕ) (r : Run) where
+  -- the last run q goes on
+  push_longer : (L : List Run) (i : ℕ) (q : Run) → suc i ≡ length L → get_or L i q ≡ q → q.last + s ≡ r.first → set L i (run q.first r.last) ≡ push s r L
+  unfolding push
+  push_longer [] i q l e h = absurd (omega arith)
+  push_longer (x ∷ []) zero q l e h = rw (e, eq-eqb (q.last + s) r.first h)
+  push_longer (x ∷ []) (suc i) q l e h = absurd (omega arith)
+  push_longer (x ∷ y ∷ L) zero q l e h = absurd (omega arith)
+  push_longer (x ∷ y ∷ L) (suc i) q l e h = ap (λ (K : List Run). x ∷ K) (push_longer (y ∷ L) i q (omega arith) e h)
+
+  -- it does not
+  push_more : (L : List Run) (i : ℕ) (q : Run) → suc i ≡ length L → get_or L i q ≡ q → (q.last + s ≡ r.first → ⊥) → L ++ r ∷ [] ≡ push s r L
+  unfolding push
+  push_more [] i q l e h = absurd (omega arith)
+  push_more (x ∷ []) zero q l e h = rw (e, ne_eqb (q.last + s) r.first h)
+  push_more (x ∷ []) (suc i) q l e h = absurd (omega arith)
+  push_more (x ∷ y ∷ L) zero q l e h = absurd (omega arith)
+  push_more (x ∷ y ∷ L) (suc i) q l e h = ap (λ (K : List Run). x ∷ K) (push_more (y ∷ L) i q (omega arith) e h)
+
+  -- the list is the first n runs of an array, and q the last of them
+  module _ (A : List Run) (n : ℕ) (l : n ≤ length A) where
+    module _ (q : Run) (p : 0 < n) (e : q ≡ get_or A (n - 1) q) where
+      last_is : get_or (take n A) (n - 1) q ≡ q
+      last_is = get_or-take n A (n - 1) q (omega arith) ∙ sym e
+
+      whole : suc (n - 1) ≡ length (take n A)
+      whole = omega (arith, length-take n A)
+
+      pub longer : q.last + s ≡ r.first → take n (set A (n - 1) (run q.first r.last)) ≡ push s r (take n A)
+      longer h = take-set-lt n A (n - 1) (run q.first r.last) (omega arith) ∙ push_longer (take n A) (n - 1) q whole last_is h
+
+      pub apart : (q.last + s ≡ r.first → ⊥) → take n A ++ r ∷ [] ≡ push s r (take n A)
+      apart h = push_more (take n A) (n - 1) q whole last_is h
+
+    pub first : n ≤ 0 → take n A ++ r ∷ [] ≡ push s r (take n A)
+    unfolding push
+    first h = let z : n ≡ 0 = omega arith in rw z
+
+-- ---- the runs of a list, one after the other
+
+module _ (s m : ℕ) (L : List Run) (c : From s m L) (i : ℕ) (d : Run) (l : i < length L) where
+  -- run i ends some steps above its first number
+  pub steps_at : Steps s (get_or L i d).first (get_or L i d).last
+  steps_at = (run_at s m L i d c l).1
+
+  -- and both its ends are named
+  pub ends_named : Mem s (get_or L i d).first L × Mem s (get_or L i d).last L
+  ends_named =
+      let k = steps_at in
+      (run_named s L i d (get_or L i d).first l ((0, omega arith), omega arith), run_named s L i d (get_or L i d).last l (k, omega arith))
+
+-- so what holds of all that is named holds of the ends
+pub ends_all : (P : ℕ → Type 0) (s m : ℕ) (L : List Run) → From s m L → ((y : ℕ) → Mem s y L → P y) → All (λ (q : Run). P q.first × P q.last) L
+ends_all P s m L c h = λ i d l. let (a, b) = ends_named s m L c i d l in (h _ a, h _ b)
+
+-- ---- how many
+
+-- numbers from the lifted half row 0 to 255, in steps of 2 or more
+pub few_runs : (s : ℕ) (L : List Run) → 2 ≤ s → Canon s L → ((y : ℕ) → Mem s y L → (lift ≤ y) × (y < lift + 2 * max_rows)) → length L ≤ max_runs
+few_runs s L p c h =
+    let n = count_above s lift (lift + 2 * max_rows) L (omega arith) (omega arith) (from_least s lift 0 L c (λ y m. (h y m).0)) (λ y m. (h y m).1) in
+    go (lt_or_ge max_runs (length L)) n
+  where
+    go : (max_runs < length L) ⊎ (length L ≤ max_runs) → 2 * s * length L + lift < lift + 2 * max_rows + 2 * s → length L ≤ max_runs
+    go (inl l) n = omega (arith, mul-le-mul_left {m = suc max_runs} {n = length L} (2 * s) l)
+    go (inr l) n = l
