@@ -9,4 +9,4 @@ abbrev pub invariant-loop-i : goal.invariant-loop-i
 invariant-loop-i l =
     let p = l.fn.part in
     let f = subtract l.run.bottom l.run.top in
-    Writing (f (listed_in p l.count)) l.left.bytes l.left.count (f (listed_from p l.i (l.count - l.i)))
+    Writing (f (listed_in p l.count)) l.left.bytes.now l.left.count (f (listed_from p l.i (l.count - l.i)))

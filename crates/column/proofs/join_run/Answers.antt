@@ -1,11 +1,11 @@
 -- Answers of `column::join`.
-use Rattle.column.specs.Laws.Writing.{join_start, join_next, join_room, join_end, copied}
+use Rattle.column.specs.Laws.Writing.{join_start, join_next, join_room, join_end, copied, zeros}
 use Rattle.column.proofs.join_run.Goals as goal
 
 pub loop-i-init : goal.loop-i-init
 loop-i-init c =
     let j = c.requires in
-    record { short = record { bottom = j.bottom_small; top = j.top_small }; writing = join_start j c.new-joined.ensures }
+    record { short = record { bottom = j.bottom_small; top = j.top_small }; writing = join_start j zeros }
 
 pub absorb-carried-requires-clause-room : goal.absorb-carried-requires-clause-room
 absorb-carried-requires-clause-room c = join_room _ _ _ c.loop-i.invariant.writing c.requires.has_room.room

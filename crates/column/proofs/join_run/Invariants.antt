@@ -11,5 +11,5 @@ invariant-loop-i l =
     let run = l.fn.run in
     record {
       short : Short l.carried;
-      writing : Writing (unite run.bottom run.top (listed_in p l.count)) l.joined.bytes l.joined.count (merged l.carried.bottom l.carried.top (listed_from p l.i (l.count - l.i)));
+      writing : Writing (unite run.bottom run.top (listed_in p l.count)) l.joined.bytes.now l.joined.count (merged l.carried.bottom l.carried.top (listed_from p l.i (l.count - l.i)));
     }

@@ -60,10 +60,10 @@ room {R = R} w h k = omega (arith, w.holds.count_is, ap length w.whole, length-a
 pub all_done : {G : List Interval} {o : List ℕ} {n : ℕ} → Writing G o n [] → Holding o n G
 all_done w = let e = w.whole ∙ append-nil w.written in rw e w.holds
 
--- the part of no intervals
-pub zeros : replicate column_size 0 ≡ column_part []
+-- the part of no intervals is zeros
+pub zeros : Holding (replicate column_size 0) 0 []
 unfolding column_part
-zeros = sym (slots_nil max_intervals interval_size)
+zeros = record { bytes_are = sym (slots_nil max_intervals interval_size); count_is = refl }
 
 -- a copy of the part that was written
 pub copied : {f : List Interval → List Interval} {p o q : List ℕ} {n r : ℕ} → q ≡ o → Changed f p n o r → Changed f p n q r
