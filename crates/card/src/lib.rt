@@ -20,7 +20,6 @@ mod old;
 mod answers; // what calls answer, and an answer as its number
 
 pub use answers::{Chosen, Fragmentation, answer};
-use choice::Best;
 pub use old::{
     TASK_LENGTH, card_choose, card_fragmentation, card_interval_count, card_list, card_new,
     card_place, card_release,
@@ -183,13 +182,13 @@ pub fn choose(record: &[u8], task: &[u8]) -> Result<Chosen, Refusal>
     ensures { Leaves (on_record «record».now (choose task.now)) (answer_by position_of result) «record».now [] }
 {
     let (record, task) = check_task(record, task)?;
-    match choice::best_position(record.bytes, task.bytes) {
-        Best::Nothing => Err(Refusal::NoPosition),
-        Best::At { column, bottom, .. } => Ok(Chosen {
-            column: column as u8,
-            bottom: bottom as u16,
-        }),
-    }
+    let Some(best) = choice::best_position(record, task) else {
+        return Err(Refusal::NoPosition);
+    };
+    Ok(Chosen {
+        column: best.position.column as u8,
+        bottom: best.position.bottom as u16,
+    })
 }
 
 // All refusals of the interval count.

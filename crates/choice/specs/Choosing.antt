@@ -1,120 +1,116 @@
 -- MODEL 11: what the functions that look for the choice answer. Assumes nothing.
-use Rattle.std.specs.Prelude.{ℕ, zero, suc, ◌+◌, ◌-◌, ◌*◌, ◌≤◌, ◌<◌, min, ◌≡◌, ◌⊎◌, Bool, true, false, not, cond, ◌&&◌, List, leb, ltb, eqb, ℤ, pos, neg_ℤ, length, get_or}
-use Rattle.runs.specs.Runs.{Run, run, Steps, In}
-use Rattle.runs.specs.Intervals.{Interval, interval}
+use Rattle.std.specs.Prelude.{ℕ, suc, ◌+◌, ◌-◌, ◌*◌, ◌≤◌, ◌<◌, min, ◌≡◌, ◌⊎◌, Bool, true, false, not, cond, ◌&&◌, List, Option, Some, None, leb, ltb, eqb, ℤ, pos, neg_ℤ}
+use Rattle.runs.specs.Runs.{run, Steps, In}
+use Rattle.runs.specs.Intervals.{Interval, Holds}
 use Rattle.runs.specs.declared.Range.{Range}
-use Rattle.model.specs.Limits.{max_rows, max_columns, max_blocks, column_weight, words}
+use Rattle.model.specs.Limits.{max_rows, max_columns, column_weight, words, reach}
 use Rattle.model.specs.Bounded.{sum_below}
 use Rattle.model.specs.Columns.{Device}
 use Rattle.model.specs.Tasks.{step}
 use Rattle.model.specs.Book.{Book, Placed, placed, fits, intervals}
 use Rattle.model.specs.Choice.{Judge, judge, Found, nothing, at, climb, chosen}
 use Rattle.model.specs.Calls.{choose, on_book}
-use Rattle.model.specs.Homes.{bit, home, adds, first_span, Room}
-use Rattle.choice.specs.declared.Seat.{Seat}
-use Rattle.choice.specs.declared.Score.{Score}
-use Rattle.choice.specs.declared.Tally.{Tally}
-use Rattle.choice.specs.declared.Best.{Best}
-use Rattle.choice.specs.declared.Best.TheVariants.{Nothing, At}
-
--- the bounds of n and s: each block adds two pieces at most, and one interval at most
-abbrev pub max_pieces : ℕ
-max_pieces = 2 * max_blocks
-
-abbrev pub max_stretch : ℕ
-max_stretch = 2 * max_rows * max_blocks
-
--- n and s are within them
-abbrev pub InBounds : ℕ → ℕ → Type 0
-InBounds n s = (n ≤ max_pieces) × (s ≤ max_stretch)
+use Rattle.model.specs.Homes.{bit, holder, home, adds, first_span, Room}
+use Rattle.column.specs.declared.Interval.{Interval as Rows}
+use Rattle.task.specs.declared.Extent.{Extent}
+use Rattle.choice.specs.Bounds.{max_pieces, max_stretch}
+use Rattle.choice.specs.declared.score.Choice.{Choice}
+use Rattle.choice.specs.declared.tally.Place.{Place}
+use Rattle.choice.specs.declared.tally.Rating.{Rating}
+use Rattle.choice.specs.declared.tally.Tally.{Tally}
 
 -- ---- one block
 
--- MODEL 11.1: block k of B and its home, the interval in which it lies
-pub record Seated (B : Placed) (L : ℕ → List Interval) (k : ℕ) (s : Seat) : Type 0 where
-  pub column : s.column ≡ B.column k
-  pub bottom : s.bottom ≡ B.bottom k
-  pub top : s.top ≡ B.top k
-  pub home : interval s.floor s.roof ≡ home B L k
-  pub on_device : s.column < max_columns
-  pub below : s.floor ≤ s.bottom
-  pub full : s.bottom < s.top
-  pub above : s.top ≤ s.roof
-  pub roof_small : s.roof ≤ 2 * max_rows
+-- the half rows of i in column c, as the code has them
+abbrev pub place_at : ℕ → Interval → Place
+place_at c i = record { column = c; rows = record { bottom = i.bottom; top = i.top } }
 
--- what stands before block k: the block before it, and before block 0 something in no column of a device
-abbrev pub Before : Placed → (ℕ → List Interval) → ℕ → Seat → Type 0
-Before B L zero s = s.column ≡ max_columns
-Before B L (suc j) s = Seated B L j s
+-- a block that is not empty stands on a device within the limits, with the task at column p, bottom y
+pub record OnDevice (x : Extent) (p y : ℕ) : Type 0 where
+  pub column : p + x.column < max_columns
+  pub low : reach ≤ y + x.low
+  pub full : x.low < x.high
+  pub high : y + x.high ≤ 2 * max_rows + reach
 
--- a block that ends at `top` of column c stands in the interval of the block before it
-abbrev pub same_home : Seat → ℕ → ℕ → Bool
-same_home before c top = eqb before.column c && leb top before.roof
+-- a block b that is not empty stands in a free interval L c of its column c
+pub record Stands (L : ℕ → List Interval) (b : Place) : Type 0 where
+  pub on_device : b.column < max_columns
+  pub full : b.rows.bottom < b.rows.top
+  pub held : Holds b.rows.bottom b.rows.top (L b.column)
 
--- what `with_block` asks: the block ends inside its interval, which is within the limits of a device
-pub record Housed (s : Seat) : Type 0 where
-  pub low : s.floor ≤ s.roof
-  pub above : s.top ≤ s.roof
-  pub roof_small : s.roof ≤ 2 * max_rows
+-- MODEL 11.1: and that interval is its home
+abbrev pub home_of : (ℕ → List Interval) → Place → Place
+home_of L b = place_at b.column (holder (L b.column) b.rows.bottom)
 
--- MODEL 11.3: the piece that is left below a block, unless it is joined to the block before it in one interval
-abbrev pub piece_below : Bool → Seat → ℕ
-piece_below joined s = bit (not joined && ltb s.floor s.bottom)
+-- the block b stands in the home h of the block before it: it ends there
+abbrev pub shared : Place → Place → Bool
+shared h b = eqb h.column b.column && leb b.rows.top h.rows.top
 
--- and with the piece above it
-abbrev pub pieces_of : Bool → Seat → ℕ
-pieces_of joined s = piece_below joined s + bit (ltb s.top s.roof)
+-- the block b ends inside the interval h, which is within the limits of a device
+pub record Housed (b h : Rows) : Type 0 where
+  pub low : h.bottom ≤ h.top
+  pub above : b.top ≤ h.top
+  pub roof_small : h.top ≤ 2 * max_rows
 
--- MODEL 11.2: the height of a block's interval, unless the block before it has counted it
-abbrev pub span_of : Bool → Seat → ℕ
-span_of joined s = cond joined 0 (s.roof - s.floor)
+-- MODEL 11.3: the pieces that a block b in the interval h adds: the one that is left below it, unless it is joined to the block before it in one
+-- interval, and the one above it
+abbrev pub pieces_of : Bool → Rows → Rows → ℕ
+pieces_of joined b h = bit (not joined && ltb h.bottom b.bottom) + bit (ltb b.top h.top)
+
+-- MODEL 11.2: the height of its interval, unless the block before it has counted it
+abbrev pub span_of : Bool → Rows → ℕ
+span_of joined h = cond joined 0 (h.top - h.bottom)
+
+-- what is asked of a block more: it stands free, and n and s are not yet at their bounds
+pub record Addable (L : ℕ → List Interval) (x : Rating) (b : Place) : Type 0 where
+  pub stands : Stands L b
+  pub few : x.score.pieces + 2 ≤ max_pieces
+  pub short : x.score.stretch + 2 * max_rows ≤ max_stretch
+
+-- n, s and the least room with a block b more, in the interval h, and joined there to the block before it or not
+pub record Added (x : Rating) (joined : Bool) (b h : Rows) (y : Rating) : Type 0 where
+  pub pieces : y.score.pieces ≡ x.score.pieces + pieces_of joined b h
+  pub stretch : y.score.stretch ≡ x.score.stretch + span_of joined h
+  pub room : y.room ≡ min x.room (h.top - b.top)
 
 -- ---- the blocks so far
 
--- one block more: the score with it, and the block, which is then the last
-abbrev pub tally_with : Score → Bool → Seat → Tally
-tally_with x joined s = record {
-  last = s;
-  score = record { pieces = x.pieces + pieces_of joined s; stretch = x.stretch + span_of joined s; room = min x.room (s.roof - s.top) };
-}
-
--- k blocks are scored: n and s so far, a room that each of them has above it in its interval, and the block before block k
-pub record Scoring (B : Placed) (L : ℕ → List Interval) (k : ℕ) (x : Tally) : Type 0 where
+-- k blocks are scored: n and s so far, and a room that each of them has above it in its interval
+pub record Rated (B : Placed) (L : ℕ → List Interval) (k : ℕ) (x : Rating) : Type 0 where
   pub within : k ≤ B.count
   pub pieces : x.score.pieces ≡ sum_below k (adds B L)
   pub stretch : x.score.stretch ≡ sum_below k (first_span B L)
-  pub room : (j : ℕ) → j < k → B.top j + x.score.room ≤ (home B L j).top
-  pub last : Before B L k x.last
+  pub room : (j : ℕ) → j < k → B.top j + x.room ≤ (home B L j).top
   pub pieces_few : x.score.pieces ≤ 2 * k
   pub stretch_small : x.score.stretch ≤ 2 * max_rows * k
-  pub room_small : x.score.room < words
+  pub room_small : x.room < words
+
+-- and the home of the last of them
+pub record Scoring (B : Placed) (L : ℕ → List Interval) (k : ℕ) (x : Tally) : Type 0 where
+  pub rated : Rated B L k x.rating
+  pub last : x.last ≡ place_at (B.column (k - 1)) (home B L (k - 1))
 
 -- ---- one position
 
 -- MODEL 11.2 and 11.3: the n and s of column p, bottom y, and a room that each block has above it in its interval
-pub record Scored (d : Device) (b : Book) (t : List ℕ) (p y : ℕ) (s : Score) : Type 0 where
-  pub pieces : s.pieces ≡ (judge d b t).n p y
-  pub stretch : s.stretch ≡ (judge d b t).s p y
-  pub room : Room s.room (placed t p y) (intervals d b)
-  pub bounds : InBounds s.pieces s.stretch
-  pub room_small : s.room < words
+pub record Scored (d : Device) (b : Book) (t : List ℕ) (p y : ℕ) (x : Rating) : Type 0 where
+  pub pieces : x.score.pieces ≡ (judge d b t).n p y
+  pub stretch : x.score.stretch ≡ (judge d b t).s p y
+  pub room : Room x.room (placed t p y) (intervals d b)
+  pub room_small : x.room < words
 
 -- ---- the best so far
 
--- its n and s are within their bounds
-abbrev pub Small : Best → Type 0
-Small Nothing = Unit {0}
-Small (At q z n s) = InBounds n s
-
 -- b is the position f, with its n and s
-abbrev pub Is : Judge → Found → Best → Type 0
-Is J f Nothing = f ≡ nothing
-Is J f (At q z n s) = (f ≡ at q z) × (n ≡ J.n q z) × (s ≡ J.s q z)
+abbrev pub Is : Judge → Found → Option Choice → Type 0
+Is J f None = f ≡ nothing
+Is J f (Some c) =
+    (f ≡ at c.position.column c.position.bottom) × (c.score.pieces ≡ J.n c.position.column c.position.bottom) × (c.score.stretch ≡ J.s c.position.column c.position.bottom)
 
--- MODEL 11.4 and 11.5: the best of b and of column p, bottom y with its n and s; b where they are equal
-abbrev pub better_of : Best → ℕ → ℕ → ℕ → ℕ → Best
-better_of Nothing p y n s = At p y n s
-better_of (At q z m t) p y n s = cond (ltb (n * t) (m * s)) (At p y n s) (At q z m t)
+-- MODEL 11.4 and 11.5: the best of b and of the choice c; b where they are equal
+abbrev pub better_of : Option Choice → Choice → Option Choice
+better_of None c = Some c
+better_of (Some b) c = cond (ltb (c.score.pieces * b.score.stretch) (b.score.pieces * c.score.stretch)) (Some c) (Some b)
 
 -- ---- the way up a column
 
@@ -126,9 +122,8 @@ pub record Rises (room step v : ℕ) : Type 0 where
   pub small : v ≤ room + step
 
 -- where b is the best below bottom y of column p, c is the best below bottom x
-pub record Climbed (J : Judge) (p y x : ℕ) (b c : Best) : Type 0 where
-  pub small : Small c
-  pub found : (f : Found) → Is J (climb J p y f) b → Is J (climb J p x f) c
+abbrev pub Climbed : Judge → ℕ → ℕ → ℕ → Option Choice → Option Choice → Type 0
+Climbed J p y x b c = (f : Found) → Is J (climb J p y f) b → Is J (climb J p x f) c
 
 -- MODEL 10.4: R is a range of column p; all that it names fits, and not one step more
 pub record FitsRange (d : Device) (b : Book) (t : List ℕ) (p : ℕ) (R : Range) : Type 0 where
@@ -140,17 +135,17 @@ pub record FitsRange (d : Device) (b : Book) (t : List ℕ) (p : ℕ) (R : Range
 -- ---- the answer
 
 -- MODEL 21.6: the number of each case, which is that of the choice (MODEL 11.6) or −9 (MODEL 13.1)
-abbrev pub answer_of : Best → ℤ
-answer_of Nothing = neg_ℤ (pos 9)
-answer_of (At q z n s) = pos (q * column_weight + z)
+abbrev pub answer_of : Option Choice → ℤ
+answer_of None = neg_ℤ (pos 9)
+answer_of (Some c) = pos (c.position.column * column_weight + c.position.bottom)
 
 -- the position is on a device within the limits
-abbrev pub Near : Best → Type 0
-Near Nothing = Unit {0}
-Near (At q z n s) = (q < max_columns) × (z < 2 * max_rows)
+abbrev pub Near : Option Choice → Type 0
+Near None = Unit {0}
+Near (Some c) = (c.position.column < max_columns) × (c.position.bottom < 2 * max_rows)
 
 -- MODEL 11.5 and 14.4: e is the choice with its n and s, or nothing, and its number is the answer of the model's call on the book
-pub record Chooses (d : Device) (b : Book) (t : List ℕ) (e : Best) : Type 0 where
+pub record Chooses (d : Device) (b : Book) (t : List ℕ) (e : Option Choice) : Type 0 where
   pub answer_is : answer_of e ≡ (on_book d b (choose t)).answer
   pub position_is : Is (judge d b t) (chosen d b t) e
   pub near : Near e

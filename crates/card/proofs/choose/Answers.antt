@@ -12,12 +12,12 @@ pub returns-in_err-record : goal.returns-in_err-record
 unfolding lent
 returns-in_err-record c = leaves_refused _ c.from_residual.result _ c.from_residual.ensures.1 (c.in_err-record.ensures (choose _) refl)
 
-pub returns-in-Nothing : goal.returns-in-Nothing
-returns-in-Nothing c =
+pub returns-in_default : goal.returns-in_default
+returns-in_default c =
     let k = c.in_ok-record in
-    choose_answers _ _ (given k.record k.task k.ensures) _ (rw (k.ensures.0, k.ensures.1) at c.best_position.ensures) (λ i. omega (arith, c.type_inv.record i)) (ap answer_of c.in-Nothing.is)
+    choose_answers _ _ (given k.record k.task k.ensures) _ (rw (k.ensures.0, k.ensures.1) at c.best_position.ensures) (λ i. omega (arith, c.type_inv.record i)) (ap answer_of c.in_default.is)
 
-pub returns-in-At : goal.returns-in-At
-returns-in-At c =
+pub returns : goal.returns
+returns c =
     let k = c.in_ok-record in
-    choose_answers _ _ (given k.record k.task k.ensures) _ (rw (k.ensures.0, k.ensures.1) at c.best_position.ensures) (λ i. omega (arith, c.type_inv.record i)) (ap answer_of c.in-At.is)
+    choose_answers _ _ (given k.record k.task k.ensures) _ (rw (k.ensures.0, k.ensures.1) at c.best_position.ensures) (λ i. omega (arith, c.type_inv.record i)) (ap answer_of c.in-Some.is)

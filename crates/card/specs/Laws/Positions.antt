@@ -1,9 +1,8 @@
 -- MODEL 10, 11 and 12: list and choose, return by return. Assumes nothing.
-use Rattle.std.specs.Prelude.{ℕ, ◌*◌, ◌≤◌, ◌<◌, ◌≡◌, refl, List, [], ℤ, length}
-use Rattle.std.specs.Prelude.{Option as Maybe, Some}
+use Rattle.std.specs.Prelude.{ℕ, ◌*◌, ◌≤◌, ◌<◌, ◌≡◌, refl, List, [], ℤ, Option, Some, length}
 use Rattle.std.proofs.Math.Path.{sym}
 use Rattle.std.proofs.Common.{◌∙◌, arith}
-use Rattle.std.proofs.Math.Option.{Option, none, some}
+use Rattle.std.proofs.Math.Option.{Option as maybe, none, some}
 use borrow.Author.Tests.{lt-ltb}
 use Rattle.model.specs.Limits.{max_rows, max_columns, max_intervals, list_room}
 use Rattle.model.specs.Columns.{Device}
@@ -20,8 +19,7 @@ use Rattle.listing.specs.Columns.{Given}
 use Rattle.listing.specs.Output.{answer_of, Answers}
 use Rattle.listing.specs.Laws.Output.{count_is}
 use Rattle.choice.specs.Choosing.{answer_of as best_answer, Chooses}
-use Rattle.choice.specs.declared.Best.{Best}
-use Rattle.choice.specs.declared.Best.TheVariants.{At as BestAt}
+use Rattle.choice.specs.declared.score.Choice.{Choice}
 use Rattle.card.specs.declared.refusal.Refusal.TheVariants.{OutputShort}
 use Rattle.card.specs.Refusals.{number_of}
 use Rattle.card.specs.Leaves.{Leaves}
@@ -34,7 +32,7 @@ module _ (r t o : List ℕ) (x : Given r t) where
   unfolding refused refusals lent
   list_short B h = leaves (refused_call r (list t o) x.sound B 6 (rw (x.sized, x.formed, lt-ltb (length o) list_room h)))
 
-  module _ (a : Maybe ℕ) (p : List ℕ) (h : Answers a (device_of r) (book_of r) t o p) where
+  module _ (a : Option ℕ) (p : List ℕ) (h : Answers a (device_of r) (book_of r) t o p) where
     -- the answer of each case
     pub list_answers : Bytes r → {z : ℤ} → answer_of a ≡ z → Leaves (on_record r (list t o)) z r p
     unfolding written
@@ -56,11 +54,11 @@ no_output : (d : Device) (b : Book) (t : List ℕ) → [] ≡ (on_book d b (choo
 unfolding on_book unless lent done
 no_output d b t = go (refused (refusals d b (choose t)))
   where
-    go : (o : Option ℕ) → [] ≡ (unless o [] b (done d b (choose t))).output
+    go : (o : maybe ℕ) → [] ≡ (unless o [] b (done d b (choose t))).output
     go none = refl
     go (some n) = refl
 
-module _ (r t : List ℕ) (x : Given r t) (a : Best) (h : Chooses (device_of r) (book_of r) t a) where
+module _ (r t : List ℕ) (x : Given r t) (a : Option Choice) (h : Chooses (device_of r) (book_of r) t a) where
   -- the answer of each case
   pub choose_answers : Bytes r → {z : ℤ} → best_answer a ≡ z → Leaves (on_record r (choose t)) z r []
   unfolding written
@@ -69,5 +67,5 @@ module _ (r t : List ℕ) (x : Given r t) (a : Best) (h : Chooses (device_of r) 
       record { answer_is = rw q (sym e ∙ h.answer_is); record_is = sym (choose_leaves r t B); output_is = rw q (no_output (device_of r) (book_of r) t) }
 
   -- the column and the bottom are small
-  pub choose_few : (q z n s : ℕ) → a ≡ BestAt q z n s → (q < max_columns) × (z < 2 * max_rows)
-  choose_few q z n s e = (rw e at h).near
+  pub choose_few : (c : Choice) → a ≡ Some c → (c.position.column < max_columns) × (c.position.bottom < 2 * max_rows)
+  choose_few c e = (rw e at h).near

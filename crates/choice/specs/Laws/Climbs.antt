@@ -1,8 +1,8 @@
 -- MODEL 11.5: the way up a range, one position considered, the bottoms passed over, and the end. Assumes nothing.
-use Rattle.std.specs.Prelude.{ℕ, suc, ◌+◌, ◌-◌, ◌*◌, ◌/◌, ◌≤◌, ◌<◌, ◌≡◌, refl, ◌⊎◌, Bool, false, cond, List, ltb}
-use Rattle.std.proofs.Common.{ap, inl, inr, mul-le-mul, mul-le-mul_right, lt_of_mul-lt-mul_right, arith, lt-ltb, le-ltb}
+use Rattle.std.specs.Prelude.{ℕ, zero, suc, max, ◌+◌, ◌-◌, ◌*◌, ◌/◌, ◌%◌, ◌≤◌, ◌<◌, ◌≡◌, refl, ◌⊎◌, Bool, false, cond, List, Option, Some, None, ltb}
+use Rattle.std.proofs.Common.{ap, inl, inr, ⊎_elim, mul_comm, mul-le-mul, mul-le-mul_right, lt_of_mul-lt-mul_right, arith}
 use Rattle.std.proofs.Math.Bool.{true}
-use Rattle.std.proofs.Math.Nat.{mul-div-le}
+use Rattle.std.proofs.Math.Nat.{div-add-mod}
 use Rattle.runs.specs.Laws.Tests.{lt_or_ge}
 use Rattle.runs.specs.Runs.{Steps}
 use Rattle.runs.specs.Meet.{Step}
@@ -23,48 +23,44 @@ use Rattle.model.proofs.Laws.Climb.{climb_none}
 use Rattle.model.proofs.Laws.Ends.{raised_steps, choose_step}
 use Rattle.listing.specs.Columns.{Given}
 use Rattle.listing.specs.Laws.Column.{some_blocks}
-use Rattle.choice.specs.Choosing.{max_pieces, max_stretch, InBounds, Scored, Small, Is, better_of, Rises, Climbed, FitsRange}
-use Rattle.choice.specs.declared.Score.{Score}
-use Rattle.choice.specs.declared.Best.{Best}
-use Rattle.choice.specs.declared.Best.TheVariants.{Nothing, At}
+use Rattle.choice.specs.Bounds.{max_pieces, max_stretch}
+use Rattle.choice.specs.Choosing.{Scored, Is, better_of, Rises, Climbed, FitsRange}
+use Rattle.choice.specs.declared.score.Choice.{Choice}
+use Rattle.choice.specs.declared.tally.Rating.{Rating}
 
--- ---- the cases of `consider`
+-- ---- one position considered
 
-module _ (b : Best) (p y n s : ℕ) where
-  pub better_first : b ≡ Nothing → At p y n s ≡ better_of b p y n s
-  better_first e = rw e
+-- the products that `is_better` compares are within 32 bits
+pub product_small : (n s : ℕ) → n ≤ max_pieces → s ≤ max_stretch → n * s ≤ max_pieces * max_stretch
+product_small n s l m = mul-le-mul {n₁ = n} {m₁ = s} {n₂ = max_pieces} {m₂ = max_stretch} l m
 
-  module _ (q z m t : ℕ) (e : b ≡ At q z m t) where
-    pub better_new : n * t < m * s → At p y n s ≡ better_of b p y n s
-    better_new l = rw (e, lt-ltb (n * t) (m * s) l)
-
-    pub better_old : m * s ≤ n * t → At q z m t ≡ better_of b p y n s
-    better_old l = rw (e, le-ltb (n * t) (m * s) l)
-
-    pub products : Small b → InBounds n s → (n * t ≤ max_pieces * max_stretch) × (m * s ≤ max_pieces * max_stretch)
-    products k l =
-        let h : Small (At q z m t) = rw e at k in
-        (mul-le-mul {n₁ = n} {m₁ = t} {n₂ = max_pieces} {m₂ = max_stretch} l.0 h.1, mul-le-mul {n₁ = m} {m₁ = s} {n₂ = max_pieces} {m₂ = max_stretch} h.0 l.1)
-
--- what was found, once column p, bottom y is seen too
-see_is : (J : Judge) (p y n s : ℕ) (f : Found) (b : Best) → n ≡ J.n p y → s ≡ J.s p y → Is J f b → Is J (see J p y f) (better_of b p y n s)
+-- what was found, once the choice c is seen too
+see_is : (J : Judge) (f : Found) (b : Option Choice) (c : Choice) → c.score.pieces ≡ J.n c.position.column c.position.bottom
+    → c.score.stretch ≡ J.s c.position.column c.position.bottom → Is J f b → Is J (see J c.position.column c.position.bottom f) (better_of b c)
 unfolding see better
-see_is J p y n s f Nothing en es h = rw h (refl, en, es)
-see_is J p y n s f (At q z m t) en es (e, em, et) = rw (e, ← em, ← et, ← en, ← es) (pick (ltb (n * t) (m * s)))
+see_is J f None c en es h = rw h (refl, en, es)
+see_is J f (Some o) c en es (e, em, et) =
+    rw (e, ← em, ← et, ← en, ← es) (pick (ltb (c.score.pieces * o.score.stretch) (o.score.pieces * c.score.stretch)))
   where
-    pick : (v : Bool) → Is J (cond v (at p y) (at q z)) (cond v (At p y n s) (At q z m t))
+    pick : (v : Bool) → Is J (cond v (at c.position.column c.position.bottom) (at o.position.column o.position.bottom)) (cond v (Some c) (Some o))
     pick true = (refl, en, es)
     pick false = (refl, em, et)
 
--- ---- the cases of `rise`
+-- ---- how far up
 
-pub rise_none : (room step : ℕ) → Rises room step step
-rise_none room step = record { steps = 0; is = omega arith; inside = inl refl; small = omega arith }
-
-pub rise_some : (room step : ℕ) → 1 ≤ room → 1 ≤ step → Rises room step (((room - 1) / step + 1) * step)
-rise_some room step l g =
-    let m = mul-div-le (room - 1) step in
-    record { steps = (room - 1) / step; is = omega arith; inside = inr (omega arith); small = omega arith }
+-- a whole number of steps that is the least not below the room and 1
+pub rise_is : (room step v : ℕ) → 1 ≤ step → v % step ≡ 0 → max room 1 ≤ v → v < max room 1 + step → Rises room step v
+rise_is room step v l e low high =
+    let whole : step * (v / step) ≡ v = omega (arith, div-add-mod v step) in
+    go (v / step) (omega (arith, mul_comm step (v / step)))
+  where
+    go : (q : ℕ) → v ≡ q * step → Rises room step v
+    go zero w = absurd (omega arith)
+    go (suc j) w = record { steps = j; is = w; inside = ⊎_elim (λ g. inl (none j w g)) (λ g. inr (omega arith)) (lt_or_ge room 1); small = omega arith }
+      where
+        none : (j : ℕ) → v ≡ suc j * step → room < 1 → j ≡ 0
+        none zero w g = refl
+        none (suc i) w g = absurd (omega arith)
 
 -- the step of a range is not 0, and a byte
 pub range_step : {r t : List ℕ} {p : ℕ} {R : Range} → Given r t → FitsRange (device_of r) (book_of r) t p R → Step R.step
@@ -83,18 +79,14 @@ bottom_small r t a p y f =
 -- ---- one range
 
 -- from its first bottom to bottom y, which is in its steps, and not above its end by more than one
-pub record Climbing (d : Device) (b : Book) (t : List ℕ) (p : ℕ) (R : Range) (c : Best) (y : ℕ) (e : Best) : Type 0 where
+pub record Climbing (d : Device) (b : Book) (t : List ℕ) (p : ℕ) (R : Range) (c : Option Choice) (y : ℕ) (e : Option Choice) : Type 0 where
   pub steps : Steps (step t) R.first y
   pub within : y ≤ R.last + step t
   pub climbed : Climbed (judge d b t) p R.first y c e
 
 module _ (d : Device) (b : Book) (t : List ℕ) (w : well_formed t ≡ true) (n : 1 ≤ blocks t) (p : ℕ) (R : Range) (g : FitsRange d b t p R) where
-  pub climbing_start : (c : Best) → Small c → Climbing d b t p R c R.first c
-  climbing_start c s = record {
-    steps = (0, omega arith);
-    within = omega (arith, g.last_in.1);
-    climbed = record { small = s; found = λ f k. k };
-  }
+  pub climbing_start : (c : Option Choice) → Climbing d b t p R c R.first c
+  climbing_start c = record { steps = (0, omega arith); within = omega (arith, g.last_in.1); climbed = λ f k. k }
 
   -- j steps up from y there is room, so these are not above the range's end
   no_further : (y room j : ℕ) → Steps (step t) R.first y → y ≤ R.last → Room room (placed t p y) (intervals d b) → (j ≡ 0) ⊎ (j * step t < room)
@@ -115,9 +107,9 @@ module _ (d : Device) (b : Book) (t : List ℕ) (w : well_formed t ≡ true) (n 
           clash (rw e at f) g.ends
 
   -- bottom y is scored, and those up to y + v are passed over
-  pub climbing_next : (c e e' : Best) (y v : ℕ) (x : Score) → y ≤ R.last → Scored d b t p y x → Rises x.room R.step v → e' ≡ better_of e p y x.pieces x.stretch → Small e'
-      → Climbing d b t p R c y e → Climbing d b t p R c (y + v) e'
-  climbing_next c e e' y v x l s u q small h =
+  pub climbing_next : (c e e' : Option Choice) (y v : ℕ) (x : Rating) → y ≤ R.last → Scored d b t p y x → Rises x.room R.step v
+      → e' ≡ better_of e (record { position = record { column = p; bottom = y }; score = x.score }) → Climbing d b t p R c y e → Climbing d b t p R c (y + v) e'
+  climbing_next c e e' y v x l s u q h =
       let j = u.steps in
       let vj : v ≡ suc j * step t = rw g.step_is at u.is in
       let inside : (j ≡ 0) ⊎ (j * step t < x.room) = rw g.step_is at u.inside in
@@ -126,21 +118,15 @@ module _ (d : Device) (b : Book) (t : List ℕ) (w : well_formed t ≡ true) (n 
       record {
         steps = (a + suc j, omega arith);
         within = rw vj (no_further y x.room j h.steps l s.room inside);
-        climbed = record {
-          small = small;
-          found = λ f k.
-              rw (vj, choose_step d b t w p y fit x.room j f n s.room inside, q)
-              (see_is (judge d b t) p y x.pieces x.stretch (climb (judge d b t) p y f) e s.pieces s.stretch (h.climbed.found f k));
-        };
+        climbed = λ f k.
+            rw (vj, choose_step d b t w p y fit x.room j f n s.room inside, q)
+            (see_is (judge d b t) (climb (judge d b t) p y f) e (record { position = record { column = p; bottom = y }; score = x.score }) s.pieces s.stretch (h.climbed f k));
       }
 
   -- the range is done: nothing fits between its end and y
-  pub climbing_done : (c e : Best) (y : ℕ) → R.last < y → Climbing d b t p R c y e → Climbed (judge d b t) p R.first (suc R.last) c e
+  pub climbing_done : (c e : Option Choice) (y : ℕ) → R.last < y → Climbing d b t p R c y e → Climbed (judge d b t) p R.first (suc R.last) c e
   unfolding judge
-  climbing_done c e y l h = record {
-    small = h.climbed.small;
-    found = λ f k. rw (climb_none (judge d b t) p (suc R.last) y f l none) at (h.climbed.found f k);
-  }
+  climbing_done c e y l h f k = rw (climb_none (judge d b t) p (suc R.last) y f l none) at (h.climbed f k)
     where
       last : fits d b t p R.last ≡ true
       last = g.all_fit R.last (g.last_in, omega arith)

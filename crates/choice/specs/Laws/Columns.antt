@@ -1,9 +1,10 @@
 -- MODEL 11.5: the way up a column, range by range, and through all columns, to the choice. Assumes nothing.
 use Prim.Native.Nat.{ℕ, suc, ◌+◌, ◌*◌, ◌≤◌, ◌<◌}
-use Rattle.std.specs.Prelude.{◌≡◌, ◌⊎◌, true, false, List, pos, length, get_or, take}
+use Rattle.std.specs.Prelude.{◌≡◌, ◌⊎◌, true, false, List, Option, Some, None, pos, length, get_or}
 use Rattle.std.proofs.Math.Path.{refl}
-use Rattle.std.proofs.Common.{sym, ap, ◌∙◌, inl, inr, arith, length-take, get_or-take}
+use Rattle.std.proofs.Common.{sym, ap, inl, inr, arith}
 use Rattle.std.proofs.Math.Numerals.{add-one}
+use Rattle.std.proofs.lemmas.List.{get_or_read}
 use Rattle.runs.specs.Laws.Tests.{lt_or_ge}
 use Rattle.runs.specs.Runs.{Run, run, Mem, Lists}
 use Rattle.runs.specs.Laws.Runs.{runs_lists}
@@ -26,9 +27,8 @@ use Rattle.model.proofs.Laws.Ends.{chosen_at}
 use Rattle.model.proofs.Laws.NoPosition.{chosen_nothing_iff}
 use Rattle.listing.specs.Columns.{Given, ranges_in}
 use Rattle.listing.specs.Laws.Column.{some_columns, few_columns, some_blocks}
-use Rattle.choice.specs.Choosing.{Small, Is, Climbed, FitsRange, Chooses}
-use Rattle.choice.specs.declared.Best.{Best}
-use Rattle.choice.specs.declared.Best.TheVariants.{Nothing, At}
+use Rattle.choice.specs.Choosing.{Is, Climbed, FitsRange, Chooses}
+use Rattle.choice.specs.declared.score.Choice.{Choice}
 
 -- ---- one column
 
@@ -37,7 +37,7 @@ abbrev pub range_at : Device → Book → List ℕ → ℕ → ℕ → Run
 range_at d b t p i = get_or (ranges_in d b t p) i (run (half_rows d) (half_rows d))
 
 -- i ranges of column p are passed: e is the best below the next one
-pub record Passed (d : Device) (b : Book) (t : List ℕ) (p i : ℕ) (c e : Best) : Type 0 where
+pub record Passed (d : Device) (b : Book) (t : List ℕ) (p i : ℕ) (c e : Option Choice) : Type 0 where
   pub within : i ≤ length (ranges_in d b t p)
   pub climbed : Climbed (judge d b t) p 0 (range_at d b t p i).first c e
 
@@ -50,16 +50,17 @@ module _ (d : Device) (b : Book) (t : List ℕ) (w : well_formed t ≡ true) (n 
   named y f = (listed.named y).1 ((fits_below d b t p y w n f).1, f)
 
   -- nothing fits below the first range
-  pub passed_none : (c : Best) → Small c → Passed d b t p 0 c c
+  pub passed_none : (c : Option Choice) → Passed d b t p 0 c c
   unfolding judge
-  passed_none c s = record {
+  passed_none c = record {
     within = omega arith;
-    climbed = record {
-      small = s;
-      found = λ f k. rw (climb_none (judge d b t) p 0 (range_at d b t p 0).first f (omega arith)
-          (λ z a l. is_false (fits d b t p z) (λ e. none_before (step t) 0 (half_rows d) (ranges_in d b t p) z listed.canon (named z e) l))) k;
-    };
+    climbed = λ f k. rw (climb_none (judge d b t) p 0 (range_at d b t p 0).first f (omega arith)
+        (λ z a l. is_false (fits d b t p z) (λ e. none_before (step t) 0 (half_rows d) (ranges_in d b t p) z listed.canon (named z e) l))) k;
   }
+
+  -- what a walk over the ranges reads at i
+  pub range_read : (L : List Run) (i : ℕ) (r : Run) → L ≡ ranges_in d b t p → i < length L → r ≡ get_or L i r → r ≡ range_at d b t p i
+  range_read L i r e l q = rw (← e) (get_or_read L i r l q (run (half_rows d) (half_rows d)))
 
   module _ (i x y : ℕ) (l : i < length (ranges_in d b t p)) (q : run x y ≡ range_at d b t p i) where
     first_is : x ≡ (range_at d b t p i).first
@@ -104,16 +105,12 @@ module _ (d : Device) (b : Book) (t : List ℕ) (w : well_formed t ≡ true) (n 
         below f (inr h) = rw h (fits_below d b t p (y + step t) w n f).1
 
     -- one range more
-    pub passed_next : (c e e' : Best) → Passed d b t p i c e → Climbed (judge d b t) p x (suc y) e e' → Passed d b t p (i + 1) c e'
+    pub passed_next : (c e e' : Option Choice) → Passed d b t p i c e → Climbed (judge d b t) p x (suc y) e e' → Passed d b t p (i + 1) c e'
     unfolding judge
     passed_next c e e' h g = rw add-one (record {
       within = l;
-      climbed = record {
-        small = g.small;
-        found = λ f k.
-            rw (climb_none (judge d b t) p (suc y) (range_at d b t p (suc i)).first f (up above) none_next)
-            (g.found f (rw (← first_is) at (h.climbed.found f k)));
-      };
+      climbed = λ f k.
+          rw (climb_none (judge d b t) p (suc y) (range_at d b t p (suc i)).first f (up above) none_next) (g f (rw (← first_is) at (h.climbed f k)));
     })
       where
         up : Next → suc y ≤ (range_at d b t p (suc i)).first
@@ -121,25 +118,24 @@ module _ (d : Device) (b : Book) (t : List ℕ) (w : well_formed t ≡ true) (n 
         up (inr m) = rw m (fits_below d b t p y w n last_fits).1
 
   -- all ranges are passed
-  pub passed_all : (i : ℕ) (c e : Best) → length (ranges_in d b t p) ≤ i → Passed d b t p i c e → Climbed (judge d b t) p 0 (half_rows d) c e
+  pub passed_all : (i : ℕ) (c e : Option Choice) → length (ranges_in d b t p) ≤ i → Passed d b t p i c e → Climbed (judge d b t) p 0 (half_rows d) c e
   passed_all i c e l h = rw (start_past (half_rows d) (ranges_in d b t p) i l) at h.climbed
 
 -- ---- all columns
 
 -- p columns are passed
-pub record Best_of (d : Device) (b : Book) (t : List ℕ) (p : ℕ) (e : Best) : Type 0 where
+pub record Best_of (d : Device) (b : Book) (t : List ℕ) (p : ℕ) (e : Option Choice) : Type 0 where
   pub within : p ≤ columns d
-  pub small : Small e
   pub is : Is (judge d b t) (choice (judge d b t) (half_rows d) p) e
 
 module _ (d : Device) (b : Book) (t : List ℕ) where
-  pub best_none : Best_of d b t 0 Nothing
+  pub best_none : Best_of d b t 0 None
   unfolding choice
-  best_none = record { within = omega arith; small = tt; is = refl }
+  best_none = record { within = omega arith; is = refl }
 
-  pub best_next : (p : ℕ) (e e' : Best) → p < columns d → Best_of d b t p e → Climbed (judge d b t) p 0 (half_rows d) e e' → Best_of d b t (p + 1) e'
+  pub best_next : (p : ℕ) (e e' : Option Choice) → p < columns d → Best_of d b t p e → Climbed (judge d b t) p 0 (half_rows d) e e' → Best_of d b t (p + 1) e'
   unfolding choice climb
-  best_next p e e' l h g = rw add-one (record { within = l; small = g.small; is = g.found (choice (judge d b t) (half_rows d) p) h.is })
+  best_next p e e' l h g = rw add-one (record { within = l; is = g (choice (judge d b t) (half_rows d) p) h.is })
 
 -- the column count that a sound record says is the device's, and not 0
 pub column_count : (r t : List ℕ) → Given r t → (n : ℕ) → n ≡ get_or r columns_at 0 → (n ≡ columns (device_of r)) × (1 ≤ n) × (n ≤ max_columns)
@@ -152,7 +148,7 @@ unfolding on_book unless refused refusals done position_number
 chosen_number r t a q z e f = rw (a.sized, a.formed, e, f)
 
 -- THEOREM: what is found in all columns is the choice
-pub chooses : (r t : List ℕ) → Given r t → (p : ℕ) (e : Best) → columns (device_of r) ≤ p → Best_of (device_of r) (book_of r) t p e → Chooses (device_of r) (book_of r) t e
+pub chooses : (r t : List ℕ) → Given r t → (p : ℕ) (e : Option Choice) → columns (device_of r) ≤ p → Best_of (device_of r) (book_of r) t p e → Chooses (device_of r) (book_of r) t e
 unfolding chosen judge
 chooses r t a p e l h = let q : p ≡ columns (device_of r) = omega (arith, h.within) in go e (rw q at h.is)
   where
@@ -168,9 +164,11 @@ chooses r t a p e l h = let q : p ≡ columns (device_of r) = omega (arith, h.wi
     some_position : (q z : ℕ) → chosen d b t ≡ at q z → no_position d b t ≡ false
     some_position q z e = is_false (no_position d b t) (λ k. let f = (chosen_nothing_iff d b t a.formed n).1 k in let z : ◌≡◌ {A = ℕ} 0 1 = cc in omega arith)
 
-    go : (e : Best) → Is (judge d b t) (choice (judge d b t) (half_rows d) (columns d)) e → Chooses d b t e
-    go Nothing f = record { answer_is = sym ((choose_none d b t a.sized a.formed).1 ((chosen_nothing_iff d b t a.formed n).0 f)); position_is = f; near = tt }
-    go (At q z m s) (f, en, es) =
+    go : (e : Option Choice) → Is (judge d b t) (choice (judge d b t) (half_rows d) (columns d)) e → Chooses d b t e
+    go None f = record { answer_is = sym ((choose_none d b t a.sized a.formed).1 ((chosen_nothing_iff d b t a.formed n).0 f)); position_is = f; near = tt }
+    go (Some c) (f, en, es) =
+        let q : ℕ = c.position.column in
+        let z : ℕ = c.position.bottom in
         let at = chosen_at d b t a.formed n q z f in
         let m = limits_to d b (sound_within r a.sound) in
         record { answer_is = chosen_number r t a q z (some_position q z f) f; position_is = (f, en, es); near = omega (arith, at.column, at.bottom, m.columns, m.rows) }

@@ -1,87 +1,125 @@
 -- MODEL 11.2 and 11.3: the score of a position, block by block. Assumes nothing.
-use Prim.Native.Nat.{ℕ, suc, ◌+◌, ◌-◌, ◌*◌, ◌≤◌, ◌<◌, min}
-use Rattle.std.specs.Prelude.{◌≡◌, Bool, List}
+use Prim.Native.Nat.{ℕ, suc, ◌+◌, ◌-◌, ◌*◌, ◌≤◌, ◌<◌}
+use Rattle.std.specs.Prelude.{◌≡◌, refl, Bool, List}
 use Rattle.std.proofs.Common.{sym, ◌∙◌}
-use Rattle.std.proofs.Math.Path.{ap}
 use Rattle.std.proofs.Math.Bool.{true, false}
 use native.Mathlib.Omega.{arith}
 use Rattle.runs.specs.Intervals.{Interval, interval}
-use Rattle.model.specs.Limits.{max_rows, max_columns, max_blocks, words}
+use Rattle.model.specs.Limits.{max_rows, max_blocks, words, reach}
 use Rattle.model.specs.Bounded.{sum_below}
-use Rattle.model.specs.Columns.{Device}
-use Rattle.model.specs.Tasks.{blocks, well_formed}
+use Rattle.model.specs.Columns.{Device, columns}
+use Rattle.model.specs.Tasks.{blocks, block, well_formed}
 use Rattle.model.specs.Book.{Book, Placed, placed, fits, intervals}
-use Rattle.model.specs.Homes.{home, joined, adds, first_span}
+use Rattle.model.specs.Homes.{home, joined}
 use Rattle.model.proofs.Laws.Bounded.{last_or}
-use Rattle.model.proofs.Laws.Homes.{Stands, adds_is, first_span_is, adds_small}
-use Rattle.model.proofs.Laws.Ends.{n_adds, s_firsts}
-use Rattle.choice.specs.Choosing.{Seated, same_home, Housed, pieces_of, span_of, InBounds, tally_with, Scoring, Scored}
-use Rattle.choice.specs.Laws.Seats.{test_joined}
-use Rattle.choice.specs.declared.Seat.{Seat}
-use Rattle.choice.specs.declared.Tally.{Tally}
+use Rattle.model.proofs.Laws.Homes.{Stands as Free, adds_is, first_span_is, adds_small, at_home}
+use Rattle.model.specs.Record.{device_of, book_of}
+use Rattle.model.proofs.Laws.Tasks.{sized_to}
+use Rattle.model.proofs.Laws.Ends.{n_adds, s_firsts, stands}
+use Rattle.task.specs.declared.Extent.{Extent}
+use Rattle.task.specs.Blocks.{SameExtent}
+use Rattle.listing.specs.Columns.{Given}
+use Rattle.column.specs.declared.Interval.{Interval as Read}
+use Rattle.choice.specs.Choosing.{place_at, Stands, home_of, shared, span_of, Addable, Added, Rated, Scoring, Scored}
+use Rattle.choice.specs.Laws.Homes.{block_of, home_at, joined_shared, shared_is, housed, on_device}
+use Rattle.choice.specs.declared.tally.Place.{Place}
+use Rattle.choice.specs.declared.tally.Rating.{Rating}
+use Rattle.choice.specs.declared.tally.Tally.{Tally}
+
+span_small : (joined : Bool) (i : Read) → i.top ≤ 2 * max_rows → span_of joined i ≤ 2 * max_rows
+span_small true i l = omega arith
+span_small false i l = omega arith
 
 module _ (B : Placed) (L : ℕ → List Interval) where
-  pub scoring_none : (x : Tally) → x.score.pieces ≡ 0 → x.score.stretch ≡ 0 → x.score.room < words → x.last.column ≡ max_columns → Scoring B L 0 x
+  pub rated_none : (x : Rating) → x.score.pieces ≡ 0 → x.score.stretch ≡ 0 → x.room < words → Rated B L 0 x
   unfolding sum_below
-  scoring_none x n s u c = record {
+  rated_none x n s u = record {
     within = omega arith;
     pieces = n;
     stretch = s;
     room = λ j l. absurd (omega arith);
-    last = c;
     pieces_few = omega arith;
     stretch_small = omega arith;
     room_small = u;
   }
 
-  -- what `with_block` asks of the score and of the block
-  pub bounded : (k : ℕ) (x : Tally) → B.count ≤ max_blocks → Scoring B L k x → InBounds x.score.pieces x.score.stretch
-  bounded k x few r = (omega (arith, r.within, r.pieces_few), omega (arith, r.within, r.stretch_small))
+  module _ (C : ℕ) (st : Free B C L) (k : ℕ) (x : Rating) (l : k < B.count) (r : Rated B L k x) where
+    -- one block more
+    pub rated_next : (home B L k).top ≤ 2 * max_rows → (t : Bool) → joined B L k ≡ t → (y : Rating) → Added x t (block_of B L k).rows (home_at B L k).rows y
+        → Rated B L (k + 1) y
+    unfolding sum_below
+    rated_next small t e y w =
+        let next : k + 1 ≡ suc k = omega arith in
+        let h = (at_home B C L st k l).above in
+        let n = adds_is B L k (home B L k) t refl e in
+        let s = first_span_is B L k (home B L k) t refl e in
+        let few = adds_small B L k in
+        let short = span_small t (home_at B L k).rows small in
+        rw next (record {
+          within = l;
+          pieces = omega (arith, w.pieces, r.pieces, n);
+          stretch = omega (arith, w.stretch, r.stretch, s);
+          room = λ j q. last_or (λ n. B.top n + y.room ≤ (home B L n).top) k j q (λ u. omega (arith, r.room j u, w.room)) (omega (arith, w.room));
+          pieces_few = omega (arith, r.pieces_few, w.pieces, n);
+          stretch_small = omega (arith, r.stretch_small, w.stretch, s);
+          room_small = omega (arith, r.room_small, w.room);
+        })
 
-  pub housed : (k : ℕ) (seat : Seat) → Seated B L k seat → Housed seat
-  housed k seat g = record { low = omega (arith, g.below, g.full, g.above); above = g.above; roof_small = g.roof_small }
+-- one block more of a task that fits
+module _ (r t : List ℕ) (a : Given r t) (p y k : ℕ) (f : fits (device_of r) (book_of r) t p y ≡ true) (l : k < blocks t) (x : Extent) (s : SameExtent x (block t k))
+    (b : Place) (e : b ≡ place_at (p + x.column) (interval (y + x.low - reach) (y + x.high - reach))) where
+  free : Free (placed t p y) (columns (device_of r)) (intervals (device_of r) (book_of r))
+  free = stands (device_of r) (book_of r) t a.formed p y f
 
-  module _ (C : ℕ) (st : Stands B C L) (k : ℕ) (o : Tally) (seat : Seat) (l : k < B.count) (r : Scoring B L k o) (g : Seated B L k seat) where
-    joined_is : joined B L k ≡ same_home o.last seat.column seat.top
-    joined_is = rw (g.column, g.top) (test_joined B C L st o.last k l (omega (arith, g.on_device, g.column)) r.last)
+  is_block : b ≡ block_of (placed t p y) (intervals (device_of r) (book_of r)) k
+  unfolding placed
+  is_block = e ∙ rw (s.column, s.low, s.high)
 
-    module _ (t : Bool) (e : t ≡ same_home o.last seat.column seat.top) where
-      adds_pieces : adds B L k ≡ pieces_of t seat
-      adds_pieces = adds_is B L k (interval seat.floor seat.roof) t (sym g.home) (joined_is ∙ sym e) ∙ rw (g.bottom, g.top)
+  pub block_stands : Stands (intervals (device_of r) (book_of r)) b
+  unfolding placed
+  block_stands =
+      let on = (on_device r t a p y k f l x s).column in
+      rw is_block (record { on_device = omega (arith, s.column); full = free.full k l; held = free.held k l })
 
-      adds_span : first_span B L k ≡ span_of t seat
-      adds_span = first_span_is B L k (interval seat.floor seat.roof) t (sym g.home) (joined_is ∙ sym e)
+  pub block_addable : (o : Rating) → Rated (placed t p y) (intervals (device_of r) (book_of r)) k o → Addable (intervals (device_of r) (book_of r)) o b
+  block_addable o g =
+      let few = (sized_to t a.sized).few in
+      record { stands = block_stands; few = omega (arith, g.pieces_few); short = omega (arith, g.stretch_small) }
 
-      -- one block more
-      pub scoring_next : (y : Tally) → y ≡ tally_with o.score t seat → Scoring B L (k + 1) y
-      unfolding sum_below
-      scoring_next y w =
-          let next : k + 1 ≡ suc k = omega arith in
-          let roof = ap (λ (i : Interval). i.top) g.home in
-          let pieces = adds_pieces in
-          let span = adds_span in
-          let small = adds_small B L k in
-          let short = span_small t in
-          let top = g.top in
-          let above = g.above in
-          rw (next, w) (record {
-            within = l;
-            pieces = omega (arith, r.pieces);
-            stretch = omega (arith, r.stretch);
-            room = λ j i. last_or (λ n. B.top n + min o.score.room (seat.roof - seat.top) ≤ (home B L n).top) k j i (λ v. omega (arith, r.room j v)) (omega arith);
-            last = g;
-            pieces_few = omega (arith, r.pieces_few);
-            stretch_small = omega (arith, r.stretch_small);
-            room_small = omega (arith, r.room_small);
-          })
-        where
-          span_small : (t : Bool) → span_of t seat ≤ 2 * max_rows
-          span_small true = omega arith
-          span_small false = omega (arith, g.roof_small)
+  block_rated : (o : Rating) → Rated (placed t p y) (intervals (device_of r) (book_of r)) k o → (q : Bool) → joined (placed t p y) (intervals (device_of r) (book_of r)) k ≡ q
+      → (z : Rating) → Added o q b.rows (home_of (intervals (device_of r) (book_of r)) b).rows z → Rated (placed t p y) (intervals (device_of r) (book_of r)) (k + 1) z
+  unfolding placed home
+  block_rated o g q j z h =
+      let small = (housed r a.sound b block_stands _ refl).roof_small in
+      rated_next _ _ _ free k o l g (rw is_block at small) q j z (rw is_block at h)
+
+  -- its home is the last one then
+  pub block_last : (h : Place) → h ≡ home_of (intervals (device_of r) (book_of r)) b
+      → h ≡ place_at ((placed t p y).column (k + 1 - 1)) (home (placed t p y) (intervals (device_of r) (book_of r)) (k + 1 - 1))
+  unfolding placed home
+  block_last h q = let back : k + 1 - 1 ≡ k = omega arith in rw back (q ∙ rw is_block)
+
+  -- block 0 is the first in its home
+  pub first_rated : k ≡ 0 → (o z : Rating) → Added o false b.rows (home_of (intervals (device_of r) (book_of r)) b).rows z
+      → Rated (placed t p y) (intervals (device_of r) (book_of r)) k o → Rated (placed t p y) (intervals (device_of r) (book_of r)) (k + 1) z
+  unfolding joined
+  first_rated m o z h g = block_rated o g false (rw m) z h
+
+  -- a later block may stand in that of the block before it
+  module _ (m : 1 ≤ k) (o : Tally) (g : Scoring (placed t p y) (intervals (device_of r) (book_of r)) k o) where
+    pub next_shared : shared o.last b ≡ true → o.last ≡ home_of (intervals (device_of r) (book_of r)) b
+    unfolding placed home
+    next_shared = rw (g.last, is_block) (shared_is (placed t p y) (intervals (device_of r) (book_of r)) _ free k m l)
+
+    pub next_rated : (z : Rating) → Added o.rating (shared o.last b) b.rows (home_of (intervals (device_of r) (book_of r)) b).rows z
+        → Rated (placed t p y) (intervals (device_of r) (book_of r)) (k + 1) z
+    unfolding placed
+    next_rated =
+        block_rated o.rating g.rated (shared o.last b) (rw (g.last, is_block) (joined_shared (placed t p y) (intervals (device_of r) (book_of r)) _ free k m l))
 
 -- all blocks are scored
-pub scored : (d : Device) (b : Book) (t : List ℕ) (p y k : ℕ) (x : Tally) → well_formed t ≡ true → blocks t ≤ max_blocks → fits d b t p y ≡ true
-    → blocks t ≤ k → Scoring (placed t p y) (intervals d b) k x → Scored d b t p y x.score
+pub scored : (d : Device) (b : Book) (t : List ℕ) (p y k : ℕ) (x : Rating) → well_formed t ≡ true → blocks t ≤ max_blocks → fits d b t p y ≡ true
+    → blocks t ≤ k → Rated (placed t p y) (intervals d b) k x → Scored d b t p y x
 unfolding placed
 scored d b t p y k x w few f l r =
     let e : k ≡ blocks t = omega (arith, r.within) in
@@ -89,6 +127,5 @@ scored d b t p y k x w few f l r =
       pieces = (rw e at r.pieces) ∙ sym (n_adds d b t w p y f);
       stretch = (rw e at r.stretch) ∙ sym (s_firsts d b t w p y f);
       room = λ j i. r.room j (omega arith);
-      bounds = bounded (placed t p y) (intervals d b) k x few r;
       room_small = r.room_small;
     }

@@ -1,0 +1,109 @@
+-- MODEL 11.1: where a block of a task that fits stands, and its home, from the bytes of a sound record. Assumes nothing.
+use Prim.Native.Nat.{ℕ, zero, suc, ◌+◌, ◌-◌, ◌≤◌, ◌<◌}
+use Rattle.std.specs.Prelude.{◌≡◌, true, List, Option, Some, eqb}
+use Rattle.std.proofs.Math.Path.{sym, ap₂}
+use Rattle.std.proofs.Common.{arith}
+use Rattle.runs.specs.Intervals.{Interval, interval}
+use Rattle.runs.specs.Laws.Tests.{tests, and_to}
+use Rattle.model.specs.Tasks.{blocks, block}
+use Rattle.model.specs.Book.{Placed, fits, intervals}
+use Rattle.model.specs.Homes.{holder, home, joined}
+use Rattle.model.specs.Record.{device_of, book_of}
+use Rattle.model.specs.Sound.{count_of, sound}
+use Rattle.model.proofs.Laws.Columns.{top_le}
+use Rattle.model.proofs.Laws.Tasks.{full_block}
+use Rattle.model.proofs.Laws.Fits.{fits_to}
+use Rattle.model.proofs.Laws.Limits.{limits_to}
+use Rattle.model.proofs.Laws.Cells.{interval_ends}
+use Rattle.model.proofs.Laws.Clauses.{clauses_to}
+use Rattle.model.proofs.Laws.Sound.{sound_within, listed_said}
+use Rattle.model.proofs.Laws.Homes.{Stands as Free, found}
+use Rattle.model.proofs.Laws.Firsts.{shared_home, joined_top}
+use Rattle.model.proofs.Laws.Ends.{column_free}
+use Rattle.column.specs.Part.{listed_in, held_in}
+use Rattle.column.specs.declared.Interval.{Interval as Rows}
+use Rattle.column.specs.Laws.Lent.{lent, listed_lent}
+use Rattle.column.specs.Laws.Held.{held_holder}
+use Rattle.task.specs.declared.Extent.{Extent}
+use Rattle.task.specs.Blocks.{SameExtent}
+use Rattle.record.specs.declared.checked.SoundRecord.{SoundRecord}
+use Rattle.task.specs.declared.Task.{Task}
+use Rattle.listing.specs.Columns.{Given}
+use Rattle.choice.specs.Choosing.{place_at, OnDevice, Stands, home_of, Housed, shared}
+use Rattle.choice.specs.declared.tally.Place.{Place}
+
+-- a sound record and a task, from what their types say
+pub given : (r : SoundRecord) (t : Task) → Given r.bytes.now t.bytes.now
+given r t = record { sound = r.sound; sized = t.sized; formed = t.well_formed }
+
+-- ---- a block that stands free
+
+module _ (r : List ℕ) (s : sound r ≡ true) (b : Place) (g : Stands (intervals (device_of r) (book_of r)) b) where
+  L : List Interval
+  L = intervals (device_of r) (book_of r) b.column
+
+  -- what the search of its column's part answers
+  pub home_found : (p : List ℕ) (n : ℕ) (h : Option Rows) → p ≡ lent r b.column → n ≡ count_of r b.column → h ≡ held_in b.rows.bottom b.rows.top (listed_in p n)
+      → h ≡ Some (home_of (intervals (device_of r) (book_of r)) b).rows
+  unfolding L
+  home_found p n h e m q =
+      let x = clauses_to r s in
+      rw (q, e, m, listed_lent r b.column x.size g.on_device (x.few_intervals b.column g.on_device), listed_said r x b.column g.on_device)
+      (held_holder b.rows.bottom b.rows.top 0 L g.full (column_free (device_of r) (book_of r) b.column).canon g.held)
+
+  -- it ends inside its home
+  pub housed : (h : Place) → h ≡ home_of (intervals (device_of r) (book_of r)) b → Housed b.rows h.rows
+  unfolding L
+  housed i e =
+      let d = device_of r in
+      let k = book_of r in
+      let h = found b.rows.bottom b.rows.top g.full 0 L (column_free d k b.column).canon g.held in
+      rw e (record {
+        low = omega (arith, h.below, h.above, g.full);
+        above = h.above;
+        roof_small = omega (arith, interval_ends d k b.column (holder L b.rows.bottom) h.member, top_le d b.column, (limits_to d k (sound_within r s)).rows);
+      })
+
+-- ---- the home of the block before
+
+module _ (B : Placed) (L : ℕ → List Interval) where
+  -- block k and its home, as the code has them
+  abbrev pub block_of : ℕ → Place
+  block_of k = place_at (B.column k) (interval (B.bottom k) (B.top k))
+
+  abbrev pub home_at : ℕ → Place
+  home_at k = place_at (B.column k) (home B L k)
+
+  module _ (C : ℕ) (s : Free B C L) where
+    -- it is shared where the next block is joined to its own
+    pub joined_shared : (k : ℕ) → 1 ≤ k → k < B.count → joined B L k ≡ shared (home_at (k - 1)) (block_of k)
+    unfolding joined
+    joined_shared zero m l = absurd (omega arith)
+    joined_shared (suc j) m l = let e : suc j - 1 ≡ j = omega arith in rw e (joined_top B C L s j l)
+
+    -- and is then its home
+    pub shared_is : (k : ℕ) → 1 ≤ k → k < B.count → shared (home_at (k - 1)) (block_of k) ≡ true → home_at (k - 1) ≡ home_at k
+    shared_is zero m l = absurd (omega arith)
+    shared_is (suc j) m l =
+        let e : suc j - 1 ≡ j = omega arith in
+        rw e (λ q.
+        let (x, y) = and_to (eqb (B.column j) (B.column (suc j))) _ q in
+        ap₂ place_at {x = B.column j} {y = B.column (suc j)} (omega tests) (sym (shared_home B C L s j l (omega tests) (omega tests))))
+
+-- ---- a block of a task that fits
+
+module _ (r t : List ℕ) (a : Given r t) (p y k : ℕ) (f : fits (device_of r) (book_of r) t p y ≡ true) (l : k < blocks t) (x : Extent) (s : SameExtent x (block t k)) where
+  -- where it stands, as numbers
+  pub on_device : OnDevice x p y
+  on_device =
+      let d = device_of r in
+      let b = book_of r in
+      let m = limits_to d b (sound_within r a.sound) in
+      let g = fits_to d b t p y f k l in
+      let full = full_block t a.formed k l in
+      record {
+        column = omega (arith, s.column, g.column, m.columns);
+        low = omega (arith, s.low, g.above);
+        full = omega (arith, s.low, s.high);
+        high = omega (arith, s.high, g.below, top_le d (p + (block t k).column), m.rows);
+      }

@@ -1,0 +1,137 @@
+// MODEL 11.1 to 11.3: the score of a position at which a task fits, block by block.
+ghost use Rattle.std.specs.Prelude.{◌≡◌, ◌+◌, ◌-◌, ◌*◌, ◌≤◌, ◌<◌, min, true, false};
+ghost use Rattle.choice.specs.Bounds.{max_pieces, max_stretch};
+ghost use Rattle.runs.specs.Intervals.{interval};
+ghost use Rattle.model.specs.Limits.{max_rows, max_columns, reach};
+ghost use Rattle.model.specs.Book.{fits, intervals};
+ghost use Rattle.model.specs.Record.{device_of, book_of};
+ghost use Rattle.choice.specs.Choosing.{place_at, OnDevice, home_of, Stands, Housed, pieces_of, span_of, shared, Addable, Added, Scored};
+
+use crate::score::Score;
+use column::Interval;
+use record::checked::SoundRecord;
+use task::{Extent, Position, Task};
+
+// More room than any block has.
+const MOST_ROOM: u32 = 65535;
+
+// Half rows of a column: a block where it stands, or the free interval that holds it, its home (MODEL 11.1).
+#[derive(Clone, Copy)]
+struct Place {
+    column: u32,
+    rows: Interval,
+}
+
+// The score of the blocks of a position, and the least room above one of them in its home.
+#[derive(Clone, Copy)]
+pub struct Rating {
+    pub score: Score,
+    pub room: u32,
+}
+
+// The rating of the blocks so far, and the home of the last of them.
+#[derive(Drop)]
+struct Tally {
+    rating: Rating,
+    last: Place,
+}
+
+impl Place {
+    // MODEL 6.1: a block of a task that is placed.
+    fn new(block: Extent, at: Position) -> Place
+        requires { OnDevice block at.column at.bottom }
+        ensures { result ≡ place_at (at.column + block.column) (interval (at.bottom + block.low - reach) (at.bottom + block.high - reach)) }
+    {
+        Place {
+            column: at.column + block.column,
+            rows: Interval {
+                bottom: at.bottom + block.low - model::REACH,
+                top: at.bottom + block.high - model::REACH,
+            },
+        }
+    }
+
+    // The home of this block, as a search finds it.
+    fn home(self, record: SoundRecord) -> Place
+        requires { Stands (intervals (device_of «record».bytes.now) (book_of «record».bytes.now)) self }
+        ensures home { result ≡ home_of (intervals (device_of «record».entry.bytes.now) (book_of «record».entry.bytes.now)) self }
+        ensures housed { Housed self.rows result.rows }
+    {
+        let found = record.column(self.column as usize).holder(self.rows);
+        Place {
+            column: self.column,
+            rows: found.unwrap(),
+        }
+    }
+
+    // Is this home that of the next block too? The blocks in it are lower, or in another column.
+    fn is_shared(self, block: Place) -> bool
+        ensures { result ≡ shared self block }
+    {
+        self.column == block.column && block.rows.top <= self.rows.top
+    }
+}
+
+impl Rating {
+    // One block more, which stands in `home`. If it is joined there to the block before it, that one has counted the home's height, and the piece
+    // between the two is the one above that block.
+    fn add_block(&mut self, joined: bool, block: Interval, home: Interval)
+        requires housed { Housed block home }
+        requires few { self.old.score.pieces + 2 ≤ max_pieces }
+        requires short { self.old.score.stretch + 2 * max_rows ≤ max_stretch }
+        ensures { Added self.old joined block home self.new }
+    {
+        let below = !joined && home.bottom < block.bottom;
+        let above = block.top < home.top;
+        let height = if joined { 0 } else { home.top - home.bottom };
+        self.score = Score {
+            pieces: self.score.pieces + u32::from(below) + u32::from(above),
+            stretch: self.score.stretch + height,
+        };
+        self.room = self.room.min(home.top - block.top);
+    }
+}
+
+impl Tally {
+    // One block more, in the home of the last one or in the one that a search finds.
+    fn add_block(&mut self, record: SoundRecord, block: Place)
+        requires addable { Addable (intervals (device_of «record».bytes.now) (book_of «record».bytes.now)) self.old.rating block }
+        requires home_is { shared self.old.last block ≡ true → self.old.last ≡ home_of (intervals (device_of «record».bytes.now) (book_of «record».bytes.now)) block }
+        ensures rating { Added self.old.rating (shared self.old.last block) block.rows (home_of (intervals (device_of «record».entry.bytes.now) (book_of «record».entry.bytes.now)) block).rows self.new.rating }
+        ensures last { self.new.last ≡ home_of (intervals (device_of «record».entry.bytes.now) (book_of «record».entry.bytes.now)) block }
+    {
+        let last = self.last;
+        // Each branch adds the block by itself, so that one that is joined costs no second test.
+        if last.is_shared(block) {
+            self.rating.add_block(true, block.rows, last.rows);
+        } else {
+            let home = block.home(record);
+            self.rating.add_block(false, block.rows, home.rows);
+            self.last = home;
+        }
+    }
+}
+
+// MODEL 11.2 and 11.3: the score of a position at which the task fits.
+pub fn score_at(record: SoundRecord, task: Task, at: Position) -> Rating
+    requires { fits (device_of «record».bytes.now) (book_of «record».bytes.now) task.bytes.now at.column at.bottom ≡ true }
+    ensures { Scored (device_of «record».entry.bytes.now) (book_of «record».entry.bytes.now) task.entry.bytes.now at.column at.bottom result }
+{
+    let none = Rating {
+        score: Score {
+            pieces: 0,
+            stretch: 0,
+        },
+        room: MOST_ROOM,
+    };
+    let first = Place::new(task.extent(0), at);
+    let mut tally = Tally {
+        rating: none,
+        last: first.home(record),
+    };
+    tally.rating.add_block(false, first.rows, tally.last.rows);
+    for k in 1..task.count() {
+        tally.add_block(record, Place::new(task.extent(k), at));
+    }
+    tally.rating
+}
