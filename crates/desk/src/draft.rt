@@ -18,7 +18,7 @@ pub struct Draft {
 
 impl Draft {
     // N: no block.
-    pub fn new() -> Draft
+    pub(crate) fn new() -> Draft
         ensures { result.bytes.items ≡ [] }
     {
         Draft {
@@ -27,7 +27,7 @@ impl Draft {
     }
 
     // B: a block more, while there is room.
-    pub fn add(&mut self, block: BlockCall) -> Result<(), card::Refusal>
+    pub(crate) fn add(&mut self, block: BlockCall) -> Result<(), card::Refusal>
         ensures variant { IsOk result ↔ (length self.old.bytes.items + block_size ≤ draft_room) }
         ensures added { OnOk result (self.new.bytes.items ≡ self.old.bytes.items ++ call_bytes block) }
         ensures refused { IfErr result (λ e. e ≡ TaskLength) }

@@ -14,10 +14,9 @@ mod lines; // a line from the fourth on
 mod ranges; // L
 mod output; // lines that have only an answer
 
+use arrayvec::ArrayString;
 pub use draft::Draft;
 pub use stand::Stand;
-
-use arrayvec::ArrayString;
 
 // The most bytes of an input.
 pub const MAX_SHEET: usize = 32768;

@@ -70,7 +70,7 @@ impl Desk {
     }
 
     // One line, without its newline.
-    pub fn on_line(&mut self, number: u32, line: &[u8], out: &mut Output)
+    pub(crate) fn on_line(&mut self, number: u32, line: &[u8], out: &mut Output)
         ensures { Leaves (on_line number (desk_of self.old.card self.old.draft.bytes.items) line.now) self.new.card self.new.draft.bytes.items out.new.bytes }
     {
         out.clear();

@@ -36,7 +36,7 @@ fn print_ranges(listing: &[u8], count: u16, number: u32, out: &mut Output)
 
 impl Desk {
     // The draft's ranges, or the refusal.
-    pub fn list(&mut self, number: u32, out: &mut Output)
+    pub(crate) fn list(&mut self, number: u32, out: &mut Output)
         requires { out.old.bytes ≡ [] }
         ensures same_card { self.new.card ≡ self.old.card }
         ensures same_draft { self.new.draft.bytes.items ≡ self.old.draft.bytes.items }

@@ -16,7 +16,7 @@ pub struct Stand<'a> {
 
 impl<'a> Stand<'a> {
     // At the first line of what is left of the input, if a line is left.
-    pub fn at(input: &'a [u8], number: u32) -> Option<Stand<'a>>
+    pub(crate) fn at(input: &'a [u8], number: u32) -> Option<Stand<'a>>
         requires { number + length input.now ≤ max_sheet + 4 }
         ensures { MatchOption result (length input.now ≡ 0) (λ s. (s.number ≡ number) × Parts input.now s.line.now s.rest.now) }
     {

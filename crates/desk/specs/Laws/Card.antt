@@ -1,7 +1,7 @@
 -- A card: the record of a device and a book within the limits, and a call on it. Assumes nothing.
 use Rattle.std.specs.Prelude.{◌≡◌, true, List, [], ℕ}
 use Rattle.std.proofs.Common.{ap, ◌∙◌}
-use Rattle.model.specs.Columns.{Device, device_ok}
+use Rattle.model.specs.Columns.{Device}
 use Rattle.model.specs.Book.{Book}
 use Rattle.model.specs.Record.{record_of, device_of, book_of}
 use Rattle.model.specs.Sound.{within}

@@ -1,16 +1,15 @@
 -- Where lines end, and what the first three lead to. Assumes nothing.
-use Rattle.std.specs.Prelude.{ℕ, suc, ◌+◌, ◌-◌, ◌*◌, ◌≤◌, ◌<◌, ◌≡◌, refl, min, Bool, true, false, cond, ◌⊎◌, Some, None, Result, Ok, Err, MatchResult, List, [], ◌∷◌, eqb, ℤ, pos, negsuc, length, take, drop}
+use Rattle.std.specs.Prelude.{ℕ, suc, ◌+◌, ◌-◌, ◌≤◌, ◌≡◌, refl, min, Bool, true, false, cond, Some, None, Result, Ok, Err, MatchResult, List, [], ◌∷◌, eqb, pos, length, take, drop}
 use Prim.Native.Char.{code}
 use Rattle.std.proofs.Math.Nat.{min_comm}
 use Rattle.std.proofs.lemmas.Result.{MatchResult-weaker}
 use Rattle.std.proofs.lemmas.List.{take_all, drop_min, length-take}
-use Rattle.std.proofs.Common.{Bor, sym, ap, ap₂, ◌∙◌, arith, add-one, drop_of_length-le, length-drop, length-append, take_at, eq-eqb, eqb-true}
+use Rattle.std.proofs.Common.{Bor, ap, ap₂, ◌∙◌, arith, add-one, length-drop, eq-eqb, eqb-true}
 use Rattle.std.proofs.Math.Option.{Option, none, some}
 use Rattle.model.specs.Limits.{record_size}
 use Rattle.model.specs.Sheet.{first_names, second_names, device_line}
-use Rattle.model.specs.Record.{record_of}
 use Rattle.model.specs.Calls.{Outcome}
-use Rattle.model.specs.Program.{lines, longer, same_line, says, with_device, first, second, third, on_lines}
+use Rattle.model.specs.Program.{lines, longer, same_line, with_device, first, second, third}
 use Rattle.model.proofs.Laws.Bounded.{and_to, is_false}
 use Rattle.model.proofs.Laws.OnRecord.{new_done, new_bad_device}
 use Rattle.model.specs.Columns.{Device, device_ok}
@@ -24,7 +23,7 @@ use Rattle.card.specs.Answers.{answer_by}
 use Rattle.desk.specs.declared.fault.Fault.{Fault}
 use Rattle.desk.specs.declared.fault.Fault.TheVariants.{Malformed, Device as NoDevice}
 use Rattle.desk.specs.Fault.{shown_fault}
-use Rattle.desk.specs.Input.{Parts, Opened, Refuses, GoesOn, Begun, Leads}
+use Rattle.desk.specs.Input.{Parts, Opened, Refuses, GoesOn, Leads}
 use Rattle.desk.specs.Laws.Refusals.{refused_below}
 
 -- ---- the first line and the others

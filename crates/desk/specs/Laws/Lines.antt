@@ -1,14 +1,13 @@
 -- What a line leaves, by the call that it makes. Assumes nothing.
-use Rattle.std.specs.Prelude.{ℕ, ◌+◌, ◌/◌, ◌%◌, ◌≤◌, ◌<◌, ◌≡◌, refl, Bool, true, false, cond, Some, None, List, [], ◌++◌, ltb, ℤ, pos, negsuc, neg_ℤ, replicate, length}
-use Rattle.std.proofs.Common.{sym, ap, ◌∙◌, arith, lt-ltb, le-ltb}
-use Rattle.std.proofs.Math.Option.{Option, none, some}
+use Rattle.std.specs.Prelude.{ℕ, ◌+◌, ◌/◌, ◌%◌, ◌≤◌, ◌<◌, ◌≡◌, refl, Some, None, List, [], ◌++◌, ℤ, pos, negsuc, neg_ℤ, replicate, length}
+use Rattle.std.proofs.Common.{ap, ◌∙◌, arith, lt-ltb, le-ltb}
 use Rattle.model.specs.Limits.{block_size, max_blocks, list_room}
 use Rattle.model.specs.Tasks.{blocks}
-use Rattle.model.specs.Record.{record_of, device_of, book_of}
-use Rattle.model.specs.Calls.{Call, list, choose, Outcome, refused, refusals, unless, lent, done, on_book}
+use Rattle.model.specs.Record.{device_of, book_of}
+use Rattle.model.specs.Calls.{Call, list, Outcome, on_book}
 use Rattle.model.specs.OnRecord.{written, on_record}
-use Rattle.model.specs.Sheet.{empty_draft, list_draft, choose_draft, sheet_line}
-use Rattle.model.specs.Program.{Left, says, answered, listed, on_call, on_line}
+use Rattle.model.specs.Sheet.{empty_draft, list_draft, sheet_line}
+use Rattle.model.specs.Program.{says, answered, listed, on_call, on_line}
 use Rattle.card.specs.Leaves.{Changes}
 use Rattle.line.specs.Block.{call_bytes}
 use Rattle.line.specs.Calls.{call_said, Says}

@@ -1,5 +1,5 @@
 -- A listing printed: its ranges read back from the bytes, and its answer. Assumes nothing.
-use Rattle.std.specs.Prelude.{ℕ, zero, suc, ◌+◌, ◌*◌, ◌≤◌, refl, ◌⊎◌, Bool, true, false, not, ltb, ℤ, pos, negsuc, nat_abs, length, drop, replicate}
+use Rattle.std.specs.Prelude.{ℕ, zero, suc, ◌+◌, ◌*◌, ◌≤◌, refl, ◌⊎◌, Bool, true, false, not, ltb, ℤ, pos, negsuc, length, drop, replicate}
 use Rattle.std.proofs.Math.Path.{◌≡◌, ap}
 use Rattle.std.proofs.Common.{sym, ◌∙◌, inl, inr, add-one, arith, length-append, get_or-drop}
 use Rattle.std.proofs.Math.Option.{Option, none, some}

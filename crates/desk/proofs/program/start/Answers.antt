@@ -1,5 +1,4 @@
 -- `start`: a fault in the first three lines, or the line after them, if there is one. Assumes nothing.
-use Rattle.std.proofs.Common.{refl}
 use Rattle.desk.specs.Laws.Card.{card_begun}
 use Rattle.desk.specs.Laws.Program.{starts_none, starts_some}
 use Rattle.desk.proofs.program.start.Goals as goal
