@@ -1,16 +1,15 @@
 -- MODEL 8.4: what the contracts of `entries` say. An entry is read, found by number, moved, put in and taken out. Assumes nothing.
-use Rattle.std.specs.Prelude.{ℕ, suc, ◌+◌, ◌-◌, ◌*◌, ◌≤◌, ◌<◌, ◌≡◌, false, eqb, Option, List, ◌++◌, length, get_or, take, drop, position}
-use Rattle.model.specs.Limits.{max_running, block_size, record_size, running_at, blocks_at}
+use Rattle.std.specs.Prelude.{ℕ, suc, ◌+◌, ◌-◌, ◌*◌, ◌≤◌, ◌<◌, ◌≡◌, true, eqb, Option, Some, None, List, ◌++◌, length, get_or, take, drop, position}
+use Rattle.model.specs.Limits.{max_running, max_blocks, block_size, record_size, running_at, blocks_at}
 use Rattle.model.specs.Columns.{Device}
-use Rattle.model.specs.Tasks.{word}
+use Rattle.model.specs.Tasks.{word, sized, well_formed}
 use Rattle.model.specs.Book.{Running, Book}
-use Rattle.model.specs.Calls.{insert, runs_in}
+use Rattle.model.specs.Calls.{insert}
 use Rattle.model.specs.Record.{entry_at, entry_part, head_bytes, book_of}
 use Rattle.model.specs.Sound.{block_count}
 use Rattle.model.specs.InPlace.{Reads, no_entry, place}
+use Rattle.record.specs.declared.bytes.Entry.{Entry as Read}
 use Rattle.record.specs.declared.entries.Entry.{Entry}
-use Rattle.record.specs.declared.entries.Found.{Found}
-use Rattle.record.specs.declared.entries.Found.TheVariants.{At, Nowhere}
 
 -- running task j of r
 abbrev pub entry_of : List ℕ → ℕ → Running
@@ -35,6 +34,21 @@ pub record HasEntry (r : List ℕ) (j : ℕ) : Type 0 where
   pub few : get_or r running_at 0 ≤ max_running
   pub runs : j < get_or r running_at 0
 
+-- a running task as the code has it
+abbrev pub seen : Read → Running
+seen e = record { number = e.number; column = e.at.column; bottom = e.at.bottom; task = e.task.bytes.now }
+
+-- MODEL 9.3 and 9.5: the blocks of entry j of r are those of a task
+pub record HasTask (r : List ℕ) (j : ℕ) : Type 0 where
+  pub few : block_count r j ≤ max_blocks
+  pub sized : sized (blocks_of r j) ≡ true
+  pub well_formed : well_formed (blocks_of r j) ≡ true
+
+-- what reading entry j of r answers: what its bytes say, or none, where its blocks are not those of a task
+abbrev pub ReadsEntry : List ℕ → ℕ → Option Read → Type 0
+ReadsEntry r j (Some e) = HasTask r j × (seen e ≡ bytes_entry r j)
+ReadsEntry r j None = HasTask r j → ⊥
+
 -- what is read of entry j of r, with where its blocks begin and end
 pub record Says (r : List ℕ) (j : ℕ) (e : Entry) : Type 0 where
   pub column : e.column ≡ get_or r (entry_at j + 2) 0
@@ -46,11 +60,6 @@ pub record Says (r : List ℕ) (j : ℕ) (e : Entry) : Type 0 where
 -- which entry of the book b has number n, if one has
 abbrev pub found : ℕ → Book → Option ℕ
 found n b = position (λ (e : Running). eqb e.number n) b
-
--- what a search for number n in the book b answers: an entry of that number, or that none runs
-abbrev pub Finds : Book → ℕ → Found → Type 0
-Finds b n (At k) = (k < length b) × ((get_or b k no_entry).number ≡ n)
-Finds b n Nowhere = runs_in b n ≡ false
 
 -- however r is read, s is read so too, but that its entries are moved by g
 pub record Moved (r s : List ℕ) (g : (ℕ → List ℕ) → ℕ → List ℕ) : Type 0 where

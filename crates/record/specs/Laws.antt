@@ -5,6 +5,7 @@ pub mod Clear
 pub mod Said
 pub mod Entries
 pub mod Moved
+pub mod Shifted
 -- columns
 pub mod Columns
 pub mod Walk

@@ -2,6 +2,7 @@
 pub mod Clear
 pub mod Columns
 pub mod Entries
+pub mod Edit
 pub mod Enter
 pub mod Leave
 pub mod Fits

@@ -7,12 +7,10 @@ ghost use Rattle.model.specs.Record.{device_of};
 ghost use Rattle.model.specs.Sound.{sound, count_of};
 ghost use Rattle.column.specs.Laws.Lent.{lent};
 
+use crate::bytes::part_at;
 use crate::sound::sound;
 use column::Column;
-use model::{
-    COLUMN_SIZE, COLUMNS_AT, COUNTS_AT, INTERVALS_AT, KINDS_AT, Kind, KindRead, RECORD_SIZE,
-    ROWS_AT,
-};
+use model::{COLUMNS_AT, COUNTS_AT, KINDS_AT, Kind, RECORD_SIZE, ROWS_AT};
 use words::get16;
 
 #[derive(Clone, Copy)]
@@ -63,10 +61,7 @@ impl<'a> SoundRecord<'a> {
         requires { c < columns (device_of self.bytes.now) }
         ensures { number_of result ≡ kind (device_of self.entry.bytes.now) c }
     {
-        let KindRead::Known(kind) = Kind::of_byte(self.bytes[KINDS_AT + c]) else {
-            unreachable!()
-        };
-        kind
+        Kind::try_from(self.bytes[KINDS_AT + c]).unwrap()
     }
 
     // MODEL 8.3: the part and the count of column c.
@@ -75,10 +70,8 @@ impl<'a> SoundRecord<'a> {
         ensures part { result.part.now ≡ lent self.entry.bytes.now c }
         ensures count { result.count ≡ count_of self.entry.bytes.now c }
     {
-        let a = INTERVALS_AT + COLUMN_SIZE * c;
-        let e = a + COLUMN_SIZE;
         Column {
-            part: &self.bytes[a..e],
+            part: &self.bytes[part_at(c)],
             count: usize::from(self.bytes[COUNTS_AT + c]),
         }
     }

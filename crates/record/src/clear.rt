@@ -7,22 +7,9 @@ ghost use Rattle.model.specs.Record.{column_part, record_of};
 ghost use Rattle.model.specs.InPlace.{put_column};
 ghost use Rattle.record.specs.Clear.{Closed};
 
-use model::{
-    COLUMN_SIZE, COLUMNS_AT, COUNTS_AT, INTERVAL_TOP_AT, INTERVALS_AT, KINDS_AT, Kind, KindRead,
-    ROWS_AT,
-};
-use words::{put16, wipe};
-
-// MODEL 3.6: the top of a column of the kind that a kind byte says.
-fn top_of(rows: u32, kind: u8) -> u32
-    requires { (rows ≤ max_rows) × (kind ≤ max_kind) }
-    ensures { result ≡ top_in rows kind }
-{
-    let KindRead::Known(known) = Kind::of_byte(kind) else {
-        return 0;
-    };
-    known.top(rows)
-}
+use crate::bytes::part_at;
+use model::{COLUMNS_AT, COUNTS_AT, INTERVAL_TOP_AT, KINDS_AT, Kind, RECORD_SIZE, ROWS_AT};
+use words::put16;
 
 // Writes the interval from 0 to top into the part of a column that has none.
 fn free_part(part: &mut [u8], top: u32)
@@ -34,19 +21,16 @@ fn free_part(part: &mut [u8], top: u32)
 }
 
 // Gives column c its kind, and frees all its cells.
-fn open_column(record: &mut [u8], c: usize, rows: u32, kind: u8)
+fn open_column(record: &mut [u8; RECORD_SIZE], c: usize, rows: u32, kind: u8)
     requires { Closed «record».old c × (rows ≤ max_rows) × (kind ≤ max_kind) }
     ensures { «record».new ≡ put_column (set «record».old (kinds_at + c) kind) c (piece 0 (top_in rows kind) []) }
 {
     record[KINDS_AT + c] = kind;
-    let top = top_of(rows, kind);
-    if top == 0 {
-        return;
+    let top = Kind::try_from(kind).unwrap().top(rows);
+    if top > 0 {
+        free_part(&mut record[part_at(c)], top);
+        record[COUNTS_AT + c] = 1;
     }
-    let a = INTERVALS_AT + COLUMN_SIZE * c;
-    let e = a + COLUMN_SIZE;
-    free_part(&mut record[a..e], top);
-    record[COUNTS_AT + c] = 1;
 }
 
 // Writes the record of a new card.
@@ -54,12 +38,11 @@ pub fn clear(record: &mut [u8], rows: u32, kinds: &[u8])
     requires { (length «record».old ≡ record_size) × (device_ok (record { rows = rows; kinds = kinds.now }) ≡ true) }
     ensures { «record».new ≡ record_of (record { rows = rows; kinds = kinds.now }) [] }
 {
-    wipe(record);
+    let record = record.as_mut_array().unwrap();
+    record.fill(0);
     put16(record, ROWS_AT, rows);
     record[COLUMNS_AT] = kinds.len() as u8;
-    let mut c = 0;
-    while c < kinds.len() {
-        open_column(record, c, rows, kinds[c]);
-        c += 1;
+    for (c, kind) in kinds.iter().enumerate() {
+        open_column(record, c, rows, *kind);
     }
 }

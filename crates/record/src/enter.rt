@@ -1,62 +1,29 @@
 // MODEL 12.4: a task entered into a record. Its cells are taken from the free intervals, and its entry is put in.
 ghost use Rattle.std.specs.Prelude.{◌≡◌, true, ◌<◌, length};
-ghost use Rattle.runs.specs.Intervals.{subtract};
-ghost use Rattle.model.specs.Limits.{max_columns, max_running, record_size, column_size};
+ghost use Rattle.model.specs.Limits.{max_running};
 ghost use Rattle.model.specs.Tasks.{blocks};
 ghost use Rattle.model.specs.Book.{placed, fits};
 ghost use Rattle.model.specs.Calls.{insert};
-ghost use Rattle.model.specs.Record.{part, column_at, record_of, device_of, book_of};
-ghost use Rattle.model.specs.Sound.{sound, count_of, number_ok};
-ghost use Rattle.model.specs.InPlace.{put_column};
-ghost use Rattle.column.specs.Part.{Room};
-ghost use Rattle.record.specs.Columns.{column_list};
+ghost use Rattle.model.specs.Record.{record_of, device_of, book_of};
+ghost use Rattle.model.specs.Sound.{sound, number_ok};
 ghost use Rattle.record.specs.Enter.{taken, Placeable};
 
-use crate::entries::{insert_entry, place_of};
-use model::{BLOCK_SIZE, COLUMN_SIZE, COUNTS_AT, INTERVALS_AT, REACH};
-use task::{Position, Task, block_at};
-
-// Cuts bottom..top out of the intervals of column c, whose part is lent (MODEL 21.5).
-fn cut_column(record: &mut [u8], c: usize, bottom: u32, top: u32)
-    requires { (length «record».old ≡ record_size) × (c < max_columns) × Room (subtract bottom top) (part «record».old (column_at c) column_size) (count_of «record».old c) }
-    ensures { «record».new ≡ put_column «record».old c (subtract bottom top (column_list «record».old c)) }
-{
-    let count = record[COUNTS_AT + c] as usize;
-    let a = INTERVALS_AT + COLUMN_SIZE * c;
-    let e = a + COLUMN_SIZE;
-    let left = column::cut(&mut record[a..e], count, bottom, top);
-    record[COUNTS_AT + c] = left as u8;
-}
+use crate::bytes::Entry;
+use crate::checked::SoundRecord;
+use crate::edit::edit_block;
+use crate::entries::insert_entry;
+use column::cut_run;
+use model::RECORD_SIZE;
+use task::{Position, Task};
 
 // Takes a task's cells.
-fn take_blocks(record: &mut [u8], task: &[u8], column: u32, bottom: u32)
-    requires { Placeable «record».old task.now column bottom }
-    ensures { «record».new ≡ taken (device_of «record».old) (book_of «record».old) (placed task.now column bottom) (blocks task.now) }
+fn take_blocks(record: &mut [u8; RECORD_SIZE], task: Task<'_>, at: Position)
+    requires { Placeable «record».old task.bytes.now at.column at.bottom }
+    ensures { «record».new ≡ taken (device_of «record».old) (book_of «record».old) (placed task.entry.bytes.now at.column at.bottom) (blocks task.entry.bytes.now) }
 {
-    let count = task.len() / BLOCK_SIZE;
-    let mut i = 0;
-    while i < count {
-        let block = block_at(task, i);
-        let c = (column + block.column) as usize;
-        cut_column(
-            record,
-            c,
-            bottom + block.low - REACH,
-            bottom + block.high - REACH,
-        );
-        i += 1;
+    for k in 0..task.count() {
+        edit_block(record, task.block(k), at, cut_run);
     }
-}
-
-// Enters a task under a number at a position where it fits.
-pub fn enter(record: &mut [u8], task: &[u8], number: u32, column: u32, bottom: u32)
-    requires placeable { Placeable «record».old task.now column bottom }
-    requires number_value { (number_ok number ≡ true) × (length (book_of «record».old) < max_running) }
-    ensures { «record».new ≡ record_of (device_of «record».old) (insert (record { number = number; column = column; bottom = bottom; task = task.now }) (book_of «record».old)) }
-{
-    let k = place_of(record, number);
-    take_blocks(record, task, column, bottom);
-    insert_entry(record, k, task, number, column, bottom);
 }
 
 // Enters a task under a number at a position where it fits.
@@ -67,5 +34,8 @@ pub fn enter_at(record: &mut [u8], task: Task<'_>, number: u32, at: Position)
     requires room { length (book_of «record».old) < max_running }
     ensures { «record».new ≡ record_of (device_of «record».old) (insert (record { number = number; column = at.column; bottom = at.bottom; task = task.entry.bytes.now }) (book_of «record».old)) }
 {
-    enter(record, task.bytes, number, at.column, at.bottom);
+    let k = SoundRecord { bytes: record }.place_of(number);
+    let record = record.as_mut_array().unwrap();
+    take_blocks(record, task, at);
+    insert_entry(record, k, Entry { number, at, task });
 }

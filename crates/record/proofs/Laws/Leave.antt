@@ -1,40 +1,38 @@
--- MODEL 12.5: a running task taken out, as the code goes. Its entry is read from its bytes, its blocks are freed, and its entry goes. Assumes nothing.
-use Rattle.std.specs.Prelude.{ℕ, suc, ◌+◌, ◌-◌, ◌*◌, ◌≤◌, ◌<◌, ◌≡◌, true, List, ◌++◌, length, get_or}
+-- MODEL 12.5: a running task taken out, as the code goes. Its task is read from its entry's bytes, its blocks are freed, and its entry goes. Assumes nothing.
+use Rattle.std.specs.Prelude.{ℕ, suc, ◌+◌, ◌-◌, ◌*◌, ◌≤◌, ◌<◌, ◌≡◌, List, ◌++◌, get_or}
 use Rattle.std.proofs.Math.Path.{sym, ap}
 use Rattle.std.proofs.Common.{◌∙◌}
 use native.Mathlib.Omega.{arith}
 use Rattle.std.proofs.Math.Numerals.{add-one}
 use Rattle.std.proofs.Math.ListN.{take, drop}
 use Rattle.runs.specs.Intervals.{unite}
-use Rattle.model.specs.Limits.{max_columns, max_blocks, max_running, block_size, reach, record_size, running_at, column_size, entry_size, blocks_at}
-use Rattle.model.specs.Tasks.{block, blocks}
-use Rattle.model.specs.Book.{Running, Book, placed, standing, intervals}
+use Rattle.model.specs.Limits.{max_blocks, max_running, block_size, reach, running_at, column_size, entry_size, blocks_at}
+use Rattle.model.specs.Tasks.{word, block, blocks}
+use Rattle.model.specs.Book.{Running, placed, standing, intervals}
 use Rattle.model.specs.Record.{part, column_at, entry_at, record_of, device_of, book_of}
-use Rattle.model.specs.Calls.{without, runs_in}
-use Rattle.model.specs.Sound.{sound, count_of, block_count}
+use Rattle.model.specs.Calls.{without}
+use Rattle.model.specs.Sound.{count_of, block_count}
 use Rattle.model.specs.Bounded.{In}
 use Rattle.model.specs.InPlace.{put_column, no_entry}
-use Rattle.model.proofs.Laws.Bounded.{clash}
 use Rattle.model.proofs.Laws.Limits.{limits_to}
-use Rattle.model.proofs.Laws.Parts.{part_part}
+use Rattle.model.proofs.Laws.Parts.{get_d_part, part_part}
 use Rattle.model.proofs.Laws.Clauses.{clauses_to}
 use Rattle.model.proofs.Laws.Record.{Shows, image_shows, image_cong, shows_image, record_shows, running_read}
 use Rattle.model.proofs.Laws.WriteBack.{Bytes}
 use Rattle.model.proofs.Laws.ReadBack.{get_d_in}
-use Rattle.model.proofs.Laws.Sound.{running_said, sound_length, sound_within, sound_record}
+use Rattle.model.proofs.Laws.Sound.{running_said, sound_within, sound_record}
 use Rattle.task.specs.declared.Block.{Block as Read}
 use Rattle.task.specs.Blocks.{Same}
 use Rattle.column.specs.Part.{Joinable}
-use Rattle.record.specs.declared.entries.Entry.{Entry as ReadEntry}
-use Rattle.record.specs.declared.entries.Found.{Found}
-use Rattle.record.specs.declared.entries.Found.TheVariants.{At, Nowhere}
+use Rattle.record.specs.Edit.{Seated}
 use Rattle.record.specs.Columns.{column_list, runs_of}
-use Rattle.record.specs.Entries.{entry_of, bytes_entry, HasEntry, Says, Finds, Removed}
+use Rattle.record.specs.Entries.{entry_of, blocks_of, bytes_entry, HasEntry, HasTask, Removed}
 use Rattle.record.specs.Leave.{free_join, freed, Runs, freed_entry}
-use Rattle.record.specs.Laws.Said.{blocks_part, entry_by_bytes, blocks_said}
+use Rattle.record.specs.Laws.Said.{blocks_part, entry_by_bytes}
 use Rattle.record.specs.Laws.Entries.{without_place}
-use Rattle.record.specs.Laws.Columns.{Stands}
-use Rattle.record.specs.Laws.Join.{stands_in, freed_room, freed_more, freed_all, freed_none}
+use Rattle.record.specs.Laws.Columns.{seat}
+use Rattle.record.specs.Laws.Join.{stands_in, freed_room, freed_more, freed_all}
+use Rattle.record.specs.Laws.Rebuild.{blocks_sized, count_sound, sound_formed}
 
 -- ---- an entry of a sound record, by its bytes
 
@@ -45,8 +43,8 @@ module _ (r : List ℕ) (j : ℕ) (x : Runs r j) where
   has_entry : HasEntry r j
   has_entry = let k = clauses_to r x.sound in record { size = k.size; few = k.few_running; runs = in_bytes }
 
-  pub in_entries : (length r ≡ record_size) × (j < max_running)
-  in_entries = let k = has_entry in (k.size, omega (arith, k.few, k.runs))
+  pub entry_on : j < max_running
+  entry_on = let k = has_entry in omega (arith, k.few, k.runs)
 
   few_here : block_count r j ≤ max_blocks
   few_here = (clauses_to r x.sound).few_blocks j in_bytes
@@ -54,130 +52,98 @@ module _ (r : List ℕ) (j : ℕ) (x : Runs r j) where
   said_here : entry_of r j ≡ bytes_entry r j
   said_here = entry_by_bytes r j has_entry few_here
 
--- ---- as the code goes
+  pub task_here : blocks_of r j ≡ (entry_of r j).task
+  task_here = sym (ap (λ (e : Running). e.task) said_here)
 
--- r is the record at entry, y its entry j as it was read, and s the record with k blocks freed
-pub record Freeing (r : List ℕ) (j : ℕ) (y : ReadEntry) (s : List ℕ) (k : ℕ) : Type 0 where
-  pub runs : Runs r j
-  pub bytes : Bytes r
-  pub says : Says r j y
-  pub upto : k ≤ y.count
-  pub is : s ≡ freed (device_of r) (book_of r) (standing (entry_of r j)) k
+  pub blocks_here : (t : List ℕ) (n : ℕ) → t ≡ blocks_of r j → n ≡ blocks t → n ≡ blocks (entry_of r j).task
+  blocks_here t n e q = q ∙ ap blocks (e ∙ task_here)
 
-pub freeing : (r : List ℕ) (j : ℕ) (y : ReadEntry) → Runs r j → Bytes r → Says r j y → Freeing r j y r 0
-freeing r j y x b o = record { runs = x; bytes = b; says = o; upto = omega arith; is = freed_none r (standing (entry_of r j)) b x.sound }
+  pub has_task : HasTask r j
+  has_task = record {
+    few = few_here;
+    sized = let (one, most) = count_sound r j has_entry x.sound in blocks_sized r j has_entry one most;
+    well_formed = sound_formed r j has_entry x.sound;
+  }
 
-module _ {r : List ℕ} {j : ℕ} {y : ReadEntry} {s : List ℕ} {k : ℕ} (x : Freeing r j y s k) where
+-- ---- as the code goes: r is the record at entry, and s the record with k blocks freed
+
+module _ (r : List ℕ) (j : ℕ) (x : Runs r j) (B : Bytes r) (s : List ℕ) (k : ℕ) (e : s ≡ freed (device_of r) (book_of r) (standing (entry_of r j)) k) where
   here : In (entry_of r j) (book_of r)
-  here = get_d_in (book_of r) j no_entry x.runs.place
+  here = get_d_in (book_of r) j no_entry x.place
 
   shown : Shows s (device_of r) (book_of r) (runs_of (device_of r) (free_join (device_of r) (book_of r) (standing (entry_of r j)) k))
   unfolding freed
-  shown = rw x.is (image_shows (device_of r) (book_of r) (runs_of (device_of r) (free_join (device_of r) (book_of r) (standing (entry_of r j)) k)))
+  shown = rw e (image_shows (device_of r) (book_of r) (runs_of (device_of r) (free_join (device_of r) (book_of r) (standing (entry_of r j)) k)))
 
-  pub freed_length : length s ≡ length r
-  freed_length = shown.size ∙ sym (sound_length r x.runs.sound)
+  -- its entry's bytes stay
+  same_entry : part s (entry_at j) entry_size ≡ part r (entry_at j) entry_size
+  same_entry =
+      shown.entry_is j (entry_on r j x)
+      ∙ sym (ap (λ z. part z (entry_at j) entry_size) (sound_record r B x.sound) ∙ (record_shows (device_of r) (book_of r)).entry_is j (entry_on r j x))
 
-  -- where the blocks stand
-  pub blocks_there : (y.from ≤ y.to) × (y.to ≤ length s)
-  blocks_there =
-      let few = few_here r j x.runs in
-      let (size, q) = in_entries r j x.runs in
-      (omega (arith, x.says.from, x.says.to), omega (arith, x.says.to, shown.size))
+  same_count : block_count s j ≡ block_count r j
+  same_count =
+      sym (get_d_part s (entry_at j) entry_size 3 0 (omega arith)) ∙ ap (λ (p : List ℕ). get_or p 3 0) same_entry ∙ get_d_part r (entry_at j) entry_size 3 0 (omega arith)
 
-  -- the part of the record that is lent is the task
-  task_lent : part s y.from (y.to - y.from) ≡ (entry_of r j).task
-  task_lent =
-      let few = few_here r j x.runs in
-      let (size, q) = in_entries r j x.runs in
+  same_blocks : blocks_of s j ≡ blocks_of r j
+  same_blocks =
       let m = block_size * block_count r j in
-      let u : y.to - y.from ≡ m = omega (arith, x.says.from, x.says.to) in
-      let entries : part s (entry_at j) entry_size ≡ part r (entry_at j) entry_size =
-      shown.entry_is j q ∙ sym (ap (λ z. part z (entry_at j) entry_size) (sound_record r x.bytes x.runs.sound) ∙ (record_shows (device_of r) (book_of r)).entry_is j q) in
-      rw (u, x.says.from)
-      (sym (part_part s (entry_at j) entry_size blocks_at m (omega arith)) ∙ ap (λ p. part p blocks_at m) entries
-      ∙ part_part r (entry_at j) entry_size blocks_at m (omega arith) ∙ sym (blocks_part r j) ∙ sym (ap (λ (e : Running). e.task) (said_here r j x.runs)))
+      let few = few_here r j x in
+      rw (blocks_part s j, blocks_part r j, same_count)
+      (sym (part_part s (entry_at j) entry_size blocks_at m (omega arith)) ∙ ap (λ p. part p blocks_at m) same_entry ∙ part_part r (entry_at j) entry_size blocks_at m (omega arith))
 
-  -- its position
-  column_is : y.column ≡ (entry_of r j).column
-  column_is = x.says.column ∙ sym (ap (λ (e : Running). e.column) (said_here r j x.runs))
+  pub task_stays : HasTask s j
+  task_stays = let h = has_task r j x in record { few = rw same_count h.few; sized = rw same_blocks h.sized; well_formed = rw same_blocks h.well_formed }
 
-  bottom_is : y.bottom ≡ (entry_of r j).bottom
-  bottom_is = x.says.bottom ∙ sym (ap (λ (e : Running). e.bottom) (said_here r j x.runs))
+  pub task_same : blocks_of s j ≡ (entry_of r j).task
+  task_same = same_blocks ∙ task_here r j x
 
-  blocks_are : blocks (entry_of r j).task ≡ block_count r j
-  blocks_are = blocks_said r j (has_entry r j x.runs) (few_here r j x.runs)
+  -- block k, n as it was read, at the entry's position p, y
+  module _ (l : k < blocks (entry_of r j).task) (t : List ℕ) (lent : t ≡ blocks_of s j) (n : Read) (same : Same n (block t k)) (p y : ℕ) (pe : p ≡ get_or r (entry_at j + 2) 0) (ye : y ≡ word r (entry_at j + 4)) where
+    at_column : p ≡ (entry_of r j).column
+    at_column = pe ∙ sym (ap (λ (e : Running). e.column) (said_here r j x))
 
-  -- when all are freed
-  pub all_freed : y.count ≤ k → s ≡ freed_entry r j
-  unfolding freed_entry
-  all_freed h =
-      let u = x.upto in
-      let e : k ≡ y.count = omega arith in
-      x.is ∙ ap (freed (device_of r) (book_of r) (standing (entry_of r j))) (e ∙ x.says.count ∙ sym blocks_are)
+    at_bottom : y ≡ (entry_of r j).bottom
+    at_bottom = ye ∙ sym (ap (λ (e : Running). e.bottom) (said_here r j x))
 
-  module _ (l : k < y.count) where
-    within_blocks : k < blocks (entry_of r j).task
-    within_blocks = omega (arith, x.says.count, blocks_are)
+    same_block : Same n (block (entry_of r j).task k)
+    same_block = rw (lent, task_same) at same
 
-    -- block k, in the part that is lent
-    pub block_there : Stands (part s y.from (y.to - y.from)) y.column y.bottom k
-    block_there =
-        rw (task_lent, column_is, bottom_is)
-        (stands_in (device_of r) (book_of r) (sound_within r x.runs.sound) (entry_of r j) here k within_blocks)
+    pub seated : Seated p y n
+    seated = seat (rw (at_column, at_bottom) (stands_in (device_of r) (book_of r) (sound_within r x.sound) (entry_of r j) here k l)) same_block
 
-    -- n is that block, as it was read
-    module _ (n : Read) (same : Same n (block (part s y.from (y.to - y.from)) k)) where
-      same_block : Same n (block (entry_of r j).task k)
-      same_block = rw task_lent at same
+    pub join_room : Joinable (y + n.low - reach) (y + n.high - reach) (part s (column_at (p + n.column)) column_size) (count_of s (p + n.column))
+    unfolding placed
+    join_room =
+        rw (same_block.column, same_block.low, same_block.high, at_column, at_bottom)
+        (freed_room (device_of r) (book_of r) (sound_within r x.sound) (entry_of r j) here s k e l)
 
-      pub join_room : (length s ≡ record_size) × (y.column + n.column < max_columns)
-          × Joinable (y.bottom + n.low - reach) (y.bottom + n.high - reach) (part s (column_at (y.column + n.column)) column_size) (count_of s (y.column + n.column))
-      unfolding placed
-      join_room = (
-        shown.size,
-        rw same.column block_there.column,
-        rw (same_block.column, same_block.low, same_block.high, column_is, bottom_is)
-            (freed_room (device_of r) (book_of r) (sound_within r x.runs.sound) (entry_of r j) here s k x.is within_blocks),
-      )
+    pub block_freed : (q : List ℕ) → q ≡ put_column s (p + n.column) (unite (y + n.low - reach) (y + n.high - reach) (column_list s (p + n.column)))
+        → q ≡ freed (device_of r) (book_of r) (standing (entry_of r j)) (k + 1)
+    unfolding placed
+    block_freed q h =
+        rw add-one
+        ((rw (same_block.column, same_block.low, same_block.high, at_column, at_bottom) at h)
+        ∙ freed_more (device_of r) (book_of r) (sound_within r x.sound) (entry_of r j) here s k e l)
 
-      pub block_freed : (q : List ℕ) → q ≡ put_column s (y.column + n.column) (unite (y.bottom + n.low - reach) (y.bottom + n.high - reach) (column_list s (y.column + n.column)))
-          → Freeing r j y q (k + 1)
-      unfolding placed
-      block_freed q h = record {
-        runs = x.runs;
-        bytes = x.bytes;
-        says = x.says;
-        upto = omega arith;
-        is = rw add-one
-            ((rw (same_block.column, same_block.low, same_block.high, column_is, bottom_is) at h)
-            ∙ freed_more (device_of r) (book_of r) (sound_within r x.runs.sound) (entry_of r j) here s k x.is within_blocks);
-      }
+-- when all are freed
+pub all_freed : (r : List ℕ) (j : ℕ) (s : List ℕ) → s ≡ freed (device_of r) (book_of r) (standing (entry_of r j)) (blocks (entry_of r j).task) → s ≡ freed_entry r j
+unfolding freed_entry
+all_freed r j s e = e
 
 -- ---- the entry, once all blocks are freed
-
--- a number that runs is found
-pub found_not : (b : Book) (n : ℕ) (f : Found) → Finds b n f → f ≡ Nowhere → runs_in b n ≡ true → ⊥
-found_not b n f h e t = clash t (rw e at h)
-
--- and what is found runs
-pub found_runs : (r : List ℕ) (n j : ℕ) (f : Found) → sound r ≡ true → Finds (book_of r) n f → f ≡ At j → Runs r j
-found_runs r n j f s h e = record { sound = s; place = (rw e at h).0 }
-
-pub found_number : (r : List ℕ) (n j : ℕ) (f : Found) → Finds (book_of r) n f → f ≡ At j → (entry_of r j).number ≡ n
-found_number r n j f h e = (rw e at h).1
 
 module _ (r : List ℕ) (j : ℕ) (x : Runs r j) (s : List ℕ) (e : s ≡ freed_entry r j) where
   cleared : Shows s (device_of r) (book_of r) (runs_of (device_of r) (free_join (device_of r) (book_of r) (standing (entry_of r j)) (blocks (entry_of r j).task)))
   unfolding freed_entry freed
   cleared = rw e (image_shows (device_of r) (book_of r) (runs_of (device_of r) (free_join (device_of r) (book_of r) (standing (entry_of r j)) (blocks (entry_of r j).task))))
 
-  pub entry_there : (length s ≡ record_size) × (j < get_or s running_at 0) × (get_or s running_at 0 ≤ max_running)
+  pub entry_there : (j < get_or s running_at 0) × (get_or s running_at 0 ≤ max_running)
   entry_there =
       let n = running_read (device_of r) (book_of r) cleared in
       let few = (limits_to (device_of r) (book_of r) (sound_within r x.sound)).few in
       let l = x.place in
-      (cleared.size, omega arith, omega arith)
+      (omega arith, omega arith)
 
   left_by : (q : List ℕ) → Removed s q j → q ≡ record_of (device_of r) (without (entry_of r j).number (book_of r))
   unfolding record_of

@@ -1,10 +1,15 @@
 -- MODEL 9.1: what a sound record says of its columns, for the methods of `SoundRecord`. Assumes nothing.
-use Rattle.std.specs.Prelude.{ℕ, ◌+◌, ◌≤◌, ◌<◌, ◌≡◌, true, List, length, get_or}
+use Rattle.std.specs.Prelude.{ℕ, ◌+◌, ◌≤◌, ◌<◌, ◌≡◌, refl, true, Result, Ok, Err, List, length, get_or}
+use Rattle.std.specs.Result.{IsOk}
 use Rattle.std.proofs.Common.{sym, arith}
 use Rattle.model.specs.Limits.{max_columns, max_running, max_kind, kinds_at}
 use Rattle.model.specs.Columns.{columns, kind}
 use Rattle.model.specs.Record.{device_of, book_of}
 use Rattle.model.specs.Sound.{sound, count_of}
+use Rattle.model.specs.Kinds.{kind_of}
+use Rattle.model.specs.declared.Kind.{Kind}
+use Rattle.model.specs.declared.UnknownKind.{UnknownKind}
+use Rattle.model.proofs.Laws.Kinds.{unknown_kind}
 use Rattle.model.proofs.Laws.Limits.{limits_to, kind_le}
 use Rattle.model.proofs.Laws.Sound.{columns_said, kind_read, sound_within}
 use Rattle.column.specs.Part.{Part}
@@ -28,3 +33,8 @@ module _ (r : List ℕ) (s : sound r ≡ true) where
   -- column c's part has room for as many intervals as its count says
   pub column_lent : (c : ℕ) → c < max_columns → Part (lent r c) (count_of r c)
   column_lent c l = let x = sound_listed r c s l in lent_is r c x.size x.column x.few
+
+-- a kind byte up to 2 is known
+pub known_byte : (n : ℕ) (k : Result Kind UnknownKind) → k ≡ kind_of n → n ≤ max_kind → IsOk k
+known_byte n (Ok k) e l = refl
+known_byte n (Err u) e l = let (is, above) = unknown_kind n (Err u) u e refl in absurd (omega arith)

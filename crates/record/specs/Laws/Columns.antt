@@ -12,7 +12,7 @@ use Rattle.model.specs.Columns.{Device, columns, height, kind, top}
 use Rattle.model.specs.Tasks.{block, blocks, sized, well_formed}
 use Rattle.model.specs.Book.{Book, Placed, covers, free, fits, intervals}
 use Rattle.model.specs.Record.{part, column_at, image, record_of, device_of, book_of}
-use Rattle.model.specs.Sound.{within, sound}
+use Rattle.model.specs.Sound.{within, count_of, sound}
 use Rattle.model.specs.InPlace.{put_column}
 use Rattle.model.proofs.Laws.Bounded.{and3_to}
 use Rattle.model.proofs.Laws.Columns.{height_two, top_le}
@@ -23,8 +23,12 @@ use Rattle.model.proofs.Laws.Changed.{changed, changed_same, changed_other}
 use Rattle.model.proofs.Laws.Record.{image_shows, image_column, image_cong}
 use Rattle.model.proofs.Laws.WriteBack.{Bytes}
 use Rattle.model.proofs.Laws.Sound.{sound_record}
+use Rattle.task.specs.declared.Block.{Block as Read}
+use Rattle.task.specs.Blocks.{Same}
+use Rattle.column.specs.Part.{Changed}
 use Rattle.column.specs.Laws.Part.{Encodes, free_small}
-use Rattle.record.specs.Columns.{runs_of}
+use Rattle.record.specs.Edit.{Seated}
+use Rattle.record.specs.Columns.{column_list, put_part, runs_of}
 
 -- ---- a record whose columns list the half rows that pass a test
 
@@ -132,3 +136,14 @@ stands d a t p y r q s w f k l =
       full = x.full;
       high = omega (arith, g.below, top_le d (p + (block t k).column));
     }
+
+-- and so as it was read
+pub seat : {t : List ℕ} {p y k : ℕ} {n : Read} → Stands t p y k → Same n (block t k) → Seated p y n
+seat x s = record { column = rw s.column x.column; low = rw s.low x.low; full = rw (s.low, s.high) x.full; high = rw s.high x.high }
+
+-- ---- a column's part and count as an edit leaves them
+
+pub put_changed : (r : List ℕ) (c : ℕ) (f : List Interval → List Interval) (q : List ℕ) (n : ℕ) → Changed f (part r (column_at c) column_size) (count_of r c) q n
+    → put_part r c q n ≡ put_column r c (f (column_list r c))
+unfolding put_column
+put_changed r c f q n x = rw (x.bytes_are, x.count_is)

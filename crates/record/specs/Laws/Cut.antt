@@ -1,6 +1,6 @@
 -- MODEL 12.4: a task's blocks taken from the free intervals one after the other; at the end these are those of the book with the task in it.
 -- Assumes nothing.
-use Rattle.std.specs.Prelude.{ℕ, suc, ◌+◌, ◌≤◌, ◌<◌, ◌≡◌, ◌⊎◌, ◌↔◌, ◌≢◌, true, not, ◌||◌, List, length}
+use Rattle.std.specs.Prelude.{ℕ, suc, ◌+◌, ◌≤◌, ◌<◌, ◌≡◌, ◌⊎◌, ◌↔◌, ◌≢◌, true, not, ◌||◌, List}
 use Rattle.std.proofs.Math.Path.{refl}
 use Rattle.std.proofs.Math.Logic.{inl, inr}
 use Rattle.std.proofs.Math.Bool.{false, and-true, or-false}
@@ -10,7 +10,7 @@ use Rattle.runs.specs.Intervals.{subtract}
 use Rattle.runs.specs.Laws.Tests.{lt_or_ge}
 use Rattle.runs.specs.Laws.Intervals.{Outside, intervals_free, free_intervals, subtract_free}
 use Rattle.runs.specs.Laws.Grid.{subtract_grid}
-use Rattle.model.specs.Limits.{column_size, record_size}
+use Rattle.model.specs.Limits.{column_size}
 use Rattle.model.specs.Bounded.{any_below}
 use Rattle.model.specs.Columns.{Device, height, kind, top}
 use Rattle.model.specs.Tasks.{block, blocks, sized, well_formed}
@@ -24,7 +24,6 @@ use Rattle.model.proofs.Laws.Limits.{limits_to}
 use Rattle.model.proofs.Laws.Cells.{block_grid}
 use Rattle.model.proofs.Laws.Split.{neither}
 use Rattle.model.proofs.Laws.Freed.{free_insert}
-use Rattle.model.proofs.Laws.Record.{image_shows}
 use Rattle.model.proofs.Laws.WriteBack.{Bytes}
 use Rattle.column.specs.Part.{Room}
 use Rattle.column.specs.Laws.Part.{room_of}
@@ -135,7 +134,3 @@ module _ (d : Device) (b : Book) (w : within d b ≡ true) (t : List ℕ) (s : s
 pub taken_none : (r : List ℕ) (B : Placed) → Bytes r → sound r ≡ true → r ≡ taken (device_of r) (book_of r) B 0
 unfolding taken
 taken_none r B x s = sound_runs r (free_cut (device_of r) (book_of r) B 0) x s (cut_none (device_of r) (book_of r) B)
-
-pub taken_length : (d : Device) (b : Book) (B : Placed) (k : ℕ) → length (taken d b B k) ≡ record_size
-unfolding taken
-taken_length d b B k = (image_shows d b (runs_of d (free_cut d b B k))).size

@@ -1,13 +1,12 @@
 -- MODEL 12.4: a task entered, as the code goes. Its blocks are taken, and its entry is put in. Assumes nothing.
 use Rattle.std.specs.Prelude.{ℕ, ◌+◌, ◌-◌, ◌≤◌, ◌<◌, ◌≡◌, true, List, leb, get_or}
-use Rattle.std.proofs.Math.Path.{ap}
 use Rattle.std.proofs.Common.{◌∙◌, arith}
 use Rattle.std.proofs.Math.Numerals.{add-one}
 use Rattle.std.proofs.Math.ListN.{length}
 use Rattle.runs.specs.Intervals.{subtract}
 use Rattle.runs.specs.Laws.Tests.{tests}
-use Rattle.model.specs.Limits.{max_columns, max_running, max_number, reach, words, record_size, running_at, column_size}
-use Rattle.model.specs.Tasks.{block, blocks, sized}
+use Rattle.model.specs.Limits.{max_running, max_number, reach, words, running_at, column_size}
+use Rattle.model.specs.Tasks.{block, blocks}
 use Rattle.model.specs.Book.{Running, placed, intervals}
 use Rattle.model.specs.Record.{part, column_at, record_of, device_of, book_of}
 use Rattle.model.specs.Calls.{insert}
@@ -23,11 +22,12 @@ use Rattle.model.proofs.Laws.Sound.{sound_within}
 use Rattle.task.specs.declared.Block.{Block as Read}
 use Rattle.task.specs.Blocks.{Same}
 use Rattle.column.specs.Part.{Room}
+use Rattle.record.specs.Edit.{Seated}
 use Rattle.record.specs.Columns.{column_list, runs_of}
 use Rattle.record.specs.Entries.{Entered}
 use Rattle.record.specs.Enter.{free_cut, taken, Placeable}
-use Rattle.record.specs.Laws.Columns.{Stands, stands}
-use Rattle.record.specs.Laws.Cut.{taken_room, taken_more, taken_all, taken_length}
+use Rattle.record.specs.Laws.Columns.{Stands, stands, seat}
+use Rattle.record.specs.Laws.Cut.{taken_room, taken_more, taken_all}
 
 -- ---- as the code goes: r is the record at entry, s the record with k blocks taken, and n block k as it was read
 
@@ -38,24 +38,24 @@ module _ (r t : List ℕ) (p y : ℕ) (x : Placeable r t p y) where
   pub block_stands : (k : ℕ) → k < blocks t → Stands t p y k
   block_stands k l = stands (device_of r) (book_of r) t p y limits_of.rows limits_of.columns x.sized x.well_formed x.fits k l
 
-  module _ (s : List ℕ) (k : ℕ) (e : s ≡ taken (device_of r) (book_of r) (placed t p y) k) (l : k < blocks t) (n : Read) (same : Same n (block t k)) where
-    pub cut_room : (length s ≡ record_size) × (p + n.column < max_columns)
-        × Room (subtract (y + n.low - reach) (y + n.high - reach)) (part s (column_at (p + n.column)) column_size) (count_of s (p + n.column))
-    unfolding placed
-    cut_room =
-        rw (same.column, same.low, same.high) (
-          ap length e ∙ taken_length (device_of r) (book_of r) (placed t p y) k,
-          (block_stands k l).column,
-          taken_room (device_of r) (book_of r) (sound_within r x.sound) t x.sized x.well_formed p y x.fits s k e l,
-        )
+  module _ (k : ℕ) (l : k < blocks t) (n : Read) (same : Same n (block t k)) where
+    pub seated : Seated p y n
+    seated = seat (block_stands k l) same
 
-    pub block_taken : (q : List ℕ) → q ≡ put_column s (p + n.column) (subtract (y + n.low - reach) (y + n.high - reach) (column_list s (p + n.column)))
-        → q ≡ taken (device_of r) (book_of r) (placed t p y) (k + 1)
-    unfolding placed
-    block_taken q h =
-        rw add-one
-        ((rw (same.column, same.low, same.high) at h)
-        ∙ taken_more (device_of r) (book_of r) (sound_within r x.sound) t x.sized x.well_formed p y x.fits s k e l)
+    module _ (s : List ℕ) (e : s ≡ taken (device_of r) (book_of r) (placed t p y) k) where
+      pub cut_room : Room (subtract (y + n.low - reach) (y + n.high - reach)) (part s (column_at (p + n.column)) column_size) (count_of s (p + n.column))
+      unfolding placed
+      cut_room =
+          rw (same.column, same.low, same.high)
+          (taken_room (device_of r) (book_of r) (sound_within r x.sound) t x.sized x.well_formed p y x.fits s k e l)
+
+      pub block_taken : (q : List ℕ) → q ≡ put_column s (p + n.column) (subtract (y + n.low - reach) (y + n.high - reach) (column_list s (p + n.column)))
+          → q ≡ taken (device_of r) (book_of r) (placed t p y) (k + 1)
+      unfolding placed
+      block_taken q h =
+          rw add-one
+          ((rw (same.column, same.low, same.high) at h)
+          ∙ taken_more (device_of r) (book_of r) (sound_within r x.sound) t x.sized x.well_formed p y x.fits s k e l)
 
   -- ---- the entry, once all blocks are taken
 
@@ -65,17 +65,14 @@ module _ (r t : List ℕ) (p y : ℕ) (x : Placeable r t p y) where
     unfolding taken
     shown = rw e (image_shows (device_of r) (book_of r) (runs_of (device_of r) (free_cut (device_of r) (book_of r) (placed t p y) (blocks t))))
 
-    pub entry_room : (length s ≡ record_size) × (k ≤ get_or s running_at 0) × (get_or s running_at 0 < max_running)
-    entry_room =
-        let n = running_read (device_of r) (book_of r) shown in
-        (shown.size, omega (arith, place_le number (book_of r)), omega arith)
-
-    pub entry_small : (sized t ≡ true) × (number < words) × (p < 256) × (y < words)
+    -- it can be put in
+    pub entry_ready : (k ≤ get_or s running_at 0) × (get_or s running_at 0 < max_running) × (number < words) × (p < 256) × (y < words)
     unfolding number_ok
-    entry_small =
+    entry_ready =
+        let n = running_read (device_of r) (book_of r) shown in
         let on = fits_below (device_of r) (book_of r) t p y x.well_formed (sized_to t x.sized).some_blocks x.fits in
         let (u, v) = and_to (leb 1 number) (leb number max_number) i in
-        (x.sized, omega tests, omega (arith, limits_of.columns), omega (arith, limits_of.rows))
+        (omega (arith, place_le number (book_of r)), omega arith, omega tests, omega (arith, limits_of.columns), omega (arith, limits_of.rows))
 
     -- THEOREM: it is the record of the book with the task in it
     pub entered_record : (q : List ℕ) → Entered s q k (record { number = number; column = p; bottom = y; task = t })

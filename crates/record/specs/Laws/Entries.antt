@@ -1,5 +1,5 @@
 -- MODEL 8.4: entries found by their number, and the place of a number. Assumes nothing.
-use Rattle.std.specs.Prelude.{ℕ, zero, suc, ◌+◌, ◌-◌, ◌≤◌, ◌<◌, ◌≡◌, refl, Bool, true, false, Option, None, Some, MatchOption, cond, ltb, List, [], ◌∷◌, ◌++◌, eqb, length, get_or, take, drop}
+use Rattle.std.specs.Prelude.{ℕ, zero, suc, ◌+◌, ◌≤◌, ◌<◌, ◌≡◌, refl, Bool, true, false, Option, None, Some, MatchOption, cond, ltb, List, [], ◌∷◌, ◌++◌, eqb, length, get_or, take, drop}
 use Rattle.std.proofs.Common.{◌⊎◌, inl, inr, sym, ap, ◌∙◌, arith, lt-ltb, le-ltb, eq-eqb, ne_eqb}
 use Rattle.std.specs.List.{position_or_len}
 use Rattle.std.specs.Option.{is_some}
@@ -7,7 +7,6 @@ use Rattle.std.proofs.lemmas.List.Quantifiers.{position-Some}
 use Rattle.runs.specs.Laws.Tests.{tests, lt_or_ge}
 use Rattle.model.proofs.Laws.Bounded.{true_or_false}
 use Rattle.std.proofs.lemmas.List.Sums.{position_or_len_is}
-use Rattle.std.proofs.Math.Decide.{dec_lt}
 use Rattle.model.specs.Limits.{running_at}
 use Rattle.model.specs.Bounded.{any_in}
 use Rattle.model.specs.Tasks.{word}
@@ -16,34 +15,15 @@ use Rattle.model.specs.Calls.{without, runs_in}
 use Rattle.model.specs.Record.{entry_at, device_of, book_of}
 use Rattle.model.specs.Sound.{sound}
 use Rattle.model.specs.InPlace.{no_entry, place}
-use Rattle.model.proofs.Laws.Bounded.{any_in_none, any_in_of}
+use Rattle.model.proofs.Laws.Bounded.{any_in_none}
 use Rattle.model.proofs.Laws.Limits.{Rising, rising_above, limits_to}
 use Rattle.model.proofs.Laws.ReadBack.{get_d_in}
 use Rattle.model.proofs.Laws.Entries.{without_none}
 use Rattle.model.proofs.Laws.Sound.{running_said, sound_within}
-use Rattle.record.specs.declared.entries.Found.TheVariants.{At, Nowhere}
-use Rattle.record.specs.Entries.{found, Finds}
+use Rattle.record.specs.Entries.{found}
 use Rattle.record.specs.Laws.Said.{number_said}
 
 -- ---- found by number
-
--- a number that no entry has does not run
-pub runs_none : (b : Book) (n : ℕ) → ((j : ℕ) → j < length b → (get_or b j no_entry).number ≡ n → ⊥) → runs_in b n ≡ false
-unfolding runs_in any_in
-runs_none [] n h = refl
-runs_none (f ∷ b) n h = rw (ne_eqb f.number n (h 0 (omega arith))) (runs_none b n (λ j q. h (suc j) (omega arith)))
-
--- and one that an entry has runs
-pub found_true : (b : Book) (n k : ℕ) → Finds b n (At k) → runs_in b n ≡ true
-unfolding runs_in
-found_true b n k (q, e) = any_in_of (λ f. eqb f.number n) b (get_or b k no_entry) (get_d_in b k no_entry q) (eq-eqb (get_or b k no_entry).number n e)
-
--- the same by the bytes of the entries
-pub found_at : (r : List ℕ) (n k : ℕ) → k < get_or r running_at 0 → word r (entry_at k) ≡ n → Finds (book_of r) n (At k)
-found_at r n k q e = (omega (arith, running_said r), number_said r k q ∙ e)
-
-pub found_none : (r : List ℕ) (n : ℕ) → ((j : ℕ) → j < get_or r running_at 0 → word r (entry_at j) ≡ n → ⊥) → Finds (book_of r) n Nowhere
-found_none r n h = runs_none (book_of r) n (λ j q e. let l : j < get_or r running_at 0 = omega (arith, running_said r) in h j l (sym (number_said r j l) ∙ e))
 
 -- what a search over the entries' bytes finds is the first entry of that number
 module _ (r : List ℕ) (n m : ℕ) (all : m ≡ length (book_of r)) where
@@ -106,20 +86,12 @@ place_is m n (f ∷ b) (suc (suc k)) r l lo hi =
     (ap suc (place_is f.number n b (suc k) r.1 (omega arith) (λ i e. lo (suc i) (ap suc e)) (λ j p q. hi (suc j) (omega arith) (omega arith))))
 
 -- the same by the bytes of the entries
-pub place_said : (r : List ℕ) (n k : ℕ) → sound r ≡ true → k ≤ get_or r running_at 0 → ((i : ℕ) → suc i ≡ k → word r (entry_at i) ≤ n)
-    → ((j : ℕ) → k ≤ j → j < get_or r running_at 0 → n < word r (entry_at j)) → k ≡ place n (book_of r)
+pub place_said : (r : List ℕ) (n k : ℕ) → sound r ≡ true → k ≤ length (book_of r) → ((i : ℕ) → suc i ≡ k → word r (entry_at i) ≤ n)
+    → ((j : ℕ) → k ≤ j → j < length (book_of r) → n < word r (entry_at j)) → k ≡ place n (book_of r)
 place_said r n k s q lo hi =
-    place_is 0 n (book_of r) k (limits_to (device_of r) (book_of r) (sound_within r s)).rising (omega (arith, running_said r))
-    (λ i e. omega (arith, number_said r i (omega arith), lo i e))
-    (λ j p l. let m : j < get_or r running_at 0 = omega (arith, running_said r) in omega (arith, number_said r j m, hi j p m))
-
--- one entry more is passed
-pub higher_more : (r : List ℕ) (n k m : ℕ) → 0 < k → n < word r (entry_at (k - 1)) → ((j : ℕ) → k ≤ j → j < m → n < word r (entry_at j))
-    → (j : ℕ) → k - 1 ≤ j → j < m → n < word r (entry_at j)
-higher_more r n k m p h hi j q l = elim (dec_lt j k) [
-  | yes a ↦ let e : j ≡ k - 1 = omega arith in rw e h
-  | no a ↦ hi j (omega arith) l
-]
+    place_is 0 n (book_of r) k (limits_to (device_of r) (book_of r) (sound_within r s)).rising q
+    (λ i e. let m : i < get_or r running_at 0 = omega (arith, running_said r) in omega (arith, number_said r i m, lo i e))
+    (λ j p l. let m : j < get_or r running_at 0 = omega (arith, running_said r) in omega (arith, number_said r j m, hi j p l))
 
 -- ---- the book without one entry
 

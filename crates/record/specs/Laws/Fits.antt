@@ -1,45 +1,48 @@
 -- MODEL 6: why `fits` is right. Each test that refuses is one of the model's, and where all pass, a free interval holds the block just where it fits.
 -- Assumes nothing.
-use Rattle.std.specs.Prelude.{ℕ, ◌+◌, ◌-◌, ◌*◌, ◌%◌, ◌≤◌, ◌<◌, ◌≡◌, ◌⊎◌, Bool, true, false, List, get_or}
-use Rattle.std.proofs.Common.{sym, ◌∙◌, inl, inr, true≢false, arith}
+use Rattle.std.specs.Prelude.{ℕ, ◌+◌, ◌-◌, ◌*◌, ◌%◌, ◌≤◌, ◌<◌, ◌≡◌, ◌⊎◌, ◌↔◌, Bool, true, false, Option, Some, None, List, get_or}
+use Rattle.std.specs.Option.{is_some}
+use Rattle.std.specs.List.{list_all, range_with_len}
+use Rattle.std.proofs.lemmas.List.FromFn.{length-range_with_len, get_or-range_with_len}
+use Rattle.std.proofs.lemmas.List.Folds.{list_all_at}
+use Rattle.std.proofs.lemmas.List.Sums.{list_all-from_AllPass}
+use Rattle.std.proofs.Common.{sym, ◌∙◌, inl, inr, arith, zero-add}
 use Rattle.std.proofs.lemmas.Bool.{false≢true}
-use Rattle.runs.specs.Intervals.{Holds}
-use Rattle.model.specs.Limits.{max_rows, max_columns, reach, columns_at, kinds_at}
-use Rattle.model.specs.Columns.{columns, height}
+use Rattle.runs.specs.Intervals.{Interval, Holds}
+use Rattle.model.specs.Limits.{max_rows, max_columns, reach, columns_at}
+use Rattle.model.specs.Columns.{columns, kind, height}
 use Rattle.model.specs.Tasks.{Block, blocks, block, sized, well_formed}
 use Rattle.model.specs.Book.{intervals, block_fits, fits}
-use Rattle.model.specs.Record.{device_of, book_of, listed_intervals}
+use Rattle.model.specs.Record.{device_of, book_of}
 use Rattle.model.specs.Sound.{count_of, sound}
-use Rattle.model.proofs.Laws.Bounded.{clash, is_false, same_test, true_or_false, last_or}
+use Rattle.model.proofs.Laws.Bounded.{clash, is_false, same_test, true_or_false, all_of, all_to}
+use Rattle.model.specs.Bounded.{all_below}
 use Rattle.model.proofs.Laws.Tasks.{sized_to, solid_block}
-use Rattle.model.proofs.Laws.Fits.{Fitting, fitting_to, fitting_of, fits_to, fits_of, fits_below}
+use Rattle.model.proofs.Laws.Fits.{Fitting, fitting_to, fitting_of, fits_below}
 use Rattle.model.proofs.Laws.Limits.{limits_to}
 use Rattle.model.proofs.Laws.Ends.{fits_held, held_fits}
 use Rattle.model.proofs.Laws.Clauses.{clauses_to}
-use Rattle.model.proofs.Laws.Sound.{columns_said, kind_read, listed_said, sound_length, sound_within}
-use Rattle.column.specs.Part.{Part, listed_in, holding}
-use Rattle.column.specs.Laws.Lent.{lent, lent_is, listed_lent}
-use Rattle.column.specs.Laws.Holding.{holding_in, holder_holds, holding_out}
+use Rattle.model.proofs.Laws.Sound.{columns_said, listed_said, sound_length, sound_within}
+use Rattle.model.specs.Blocks.{Solid}
+use Rattle.task.specs.declared.Block.{Block as Seen}
+use Rattle.task.specs.Blocks.{seen, Same}
+use Rattle.task.specs.Laws.Blocks.{same_seen}
+use Rattle.column.specs.Part.{listed_in, held_in}
+use Rattle.column.specs.Laws.Lent.{lent, listed_lent}
+use Rattle.column.specs.Laws.Held.{held_within, holder_holds, held_nowhere}
 use Rattle.column.specs.declared.Interval.{Interval as Read}
-use Rattle.column.specs.declared.Held.{Held}
-use Rattle.column.specs.declared.Held.TheVariants.{In, Nowhere}
-use Rattle.record.specs.Fits.{Listed, HeldIn, Movable}
+use Rattle.record.specs.Fits.{Listed}
 
 -- ---- the search of a column's part
 
-pub lent_part : (r : List ℕ) (c : ℕ) → Listed r c → Part (lent r c) (count_of r c)
-lent_part r c x = lent_is r c x.size x.column x.few
+-- in a sound record it lists the free intervals
+pub listed_sound : (r : List ℕ) (c : ℕ) → sound r ≡ true → c < max_columns → listed_in (lent r c) (count_of r c) ≡ intervals (device_of r) (book_of r) c
+listed_sound r c s l = let x = clauses_to r s in listed_lent r c x.size l (x.few_intervals c l) ∙ listed_said r x c l
 
 -- what it answers
-module _ (r : List ℕ) (c b t : ℕ) (x : Listed r c) (h : Held) (e : h ≡ holding b t (listed_in (lent r c) (count_of r c))) where
-  pub held_in : (i : Read) → h ≡ In i → HeldIn r c b t true
-  held_in i q = record {
-    yes = λ u. let f = rw (listed_lent r c x.size x.column x.few) at (sym e ∙ q) in holder_holds b t (listed_intervals r c) i (holding_in b t (listed_intervals r c) i f);
-    no = λ u. absurd (true≢false u);
-  }
-
-  pub held_nowhere : h ≡ Nowhere → HeldIn r c b t false
-  held_nowhere q = record { yes = λ u. absurd (false≢true u); no = λ u. holding_out b t (listed_intervals r c) (rw (listed_lent r c x.size x.column x.few) at (sym e ∙ q)) }
+pub held_test : (b t : ℕ) (L : List Interval) (h : Option Read) (ok : Bool) → h ≡ held_in b t L → ok ≡ is_some h → (ok ≡ true) ↔ Holds b t L
+held_test b t L None ok e u = (λ k. absurd (false≢true (sym u ∙ k)), λ h. absurd (held_nowhere b t L (sym e) h))
+held_test b t L (Some x) ok e u = (λ k. holder_holds b t L x (held_within b t L x (sym e)), λ h. u)
 
 -- ---- a block
 
@@ -50,75 +53,41 @@ few_columns r s = omega (arith, columns_said r, (limits_to (device_of r) (book_o
 pub sound_listed : (r : List ℕ) (c : ℕ) → sound r ≡ true → c < max_columns → Listed r c
 sound_listed r c s q = record { size = sound_length r s; column = q; few = (clauses_to r s).few_intervals c q }
 
-module _ (r : List ℕ) (k : Block) (p y : ℕ) (m : Movable r k p y) where
-  no_fit : ¬ Fitting (device_of r) (book_of r) k p y → false ≡ block_fits (device_of r) (book_of r) k p y
-  no_fit h = sym (is_false _ (λ e. h (fitting_to (device_of r) (book_of r) k p y e)))
-
-  pub refused_column : get_or r columns_at 0 ≤ p + k.column → false ≡ block_fits (device_of r) (book_of r) k p y
-  refused_column h = no_fit (λ f. omega (arith, columns_said r, f.column))
-
-  pub refused_kind : p + k.column < get_or r columns_at 0 → (get_or r (kinds_at + (p + k.column)) 0 ≡ k.kind → ⊥) → false ≡ block_fits (device_of r) (book_of r) k p y
-  refused_kind q h = no_fit (λ f. h (sym (kind_read r (p + k.column) q) ∙ f.kind))
-
-  pub refused_below : y + k.low < reach → false ≡ block_fits (device_of r) (book_of r) k p y
-  refused_below h = no_fit (λ f. omega (arith, f.above))
-
-  pub refused_grid : ((y + k.low - reach) % height k.kind ≡ 0 → ⊥) → false ≡ block_fits (device_of r) (book_of r) k p y
-  refused_grid h = no_fit (λ f. h f.grid)
+module _ (r : List ℕ) (k : Block) (p y : ℕ) (ok : Bool) where
+  -- a block that fails a test does not fit
+  pub no_fit : (Fitting (device_of r) (book_of r) k p y → ⊥) → ok ≡ false → ok ≡ block_fits (device_of r) (book_of r) k p y
+  no_fit h f = f ∙ sym (is_false _ (λ e. h (fitting_to (device_of r) (book_of r) k p y e)))
 
   -- THEOREM: a block on the grid of a column of its kind fits just where one free interval holds it
-  pub held_block : p + k.column < get_or r columns_at 0 → get_or r (kinds_at + (p + k.column)) 0 ≡ k.kind → reach ≤ y + k.low → (y + k.low - reach) % height k.kind ≡ 0
-      → (ok : Bool) → HeldIn r (p + k.column) (y + k.low - reach) (y + k.high - reach) ok → ok ≡ block_fits (device_of r) (book_of r) k p y
-  held_block q e a g ok h =
+  pub held_block : k.low < k.high → p + k.column < columns (device_of r) → kind (device_of r) (p + k.column) ≡ k.kind → reach ≤ y + k.low → (y + k.low - reach) % height k.kind ≡ 0
+      → ((ok ≡ true) ↔ Holds (y + k.low - reach) (y + k.high - reach) (intervals (device_of r) (book_of r) (p + k.column))) → ok ≡ block_fits (device_of r) (book_of r) k p y
+  held_block l q e a g (to, of) =
       let d = device_of r in
       let b = book_of r in
-      let c = p + k.column in
-      let l : listed_intervals r c ≡ intervals d b c = listed_said r (clauses_to r m.sound) c (omega (arith, few_columns r m.sound)) in
       same_test ok (block_fits d b k p y)
-      (λ t. fitting_of d b k p y (held_fits d b k p y m.solid.full (omega (arith, columns_said r)) (kind_read r c q ∙ e) a g (rw l at (h.yes t))))
-      (λ t. go (true_or_false ok) (rw l (fits_held d b k p y m.solid.full (fitting_to d b k p y t))))
-    where
-      go : (ok ≡ true) ⊎ (ok ≡ false) → Holds (y + k.low - reach) (y + k.high - reach) (listed_intervals r (p + k.column)) → ok ≡ true
-      go (inl u) n = u
-      go (inr u) n = absurd (h.no u n)
+      (λ t. fitting_of d b k p y (held_fits d b k p y l q e a g (to t)))
+      (λ t. of (fits_held d b k p y l (fitting_to d b k p y t)))
 
 -- ---- a task
 
+-- block i of a well-formed task, as it was read
+pub solid_seen : (t : List ℕ) (i : ℕ) (n : Seen) → well_formed t ≡ true → i < blocks t → Same n (block t i) → Solid (seen n)
+solid_seen t i n w l s = rw (same_seen n (block t i) s) (solid_block t w i l)
+
+-- what holds of each number of a range
+pub range_all : (p : ℕ → Bool) (n : ℕ) → list_all p (range_with_len 0 n) ≡ all_below n p
+range_all p n =
+    same_test (list_all p (range_with_len 0 n)) (all_below n p)
+    (λ h. all_of n p (λ k l. go k l (true_or_false (p k)) h))
+    (λ h. list_all-from_AllPass p (range_with_len 0 n) (λ k d l. let q : k < n = rw length-range_with_len at l in rw (get_or-range_with_len 0 n k d q, zero-add) (all_to n p h k q)))
+  where
+    go : (k : ℕ) → k < n → (p k ≡ true) ⊎ (p k ≡ false) → list_all p (range_with_len 0 n) ≡ true → p k ≡ true
+    go k l (inl t) h = t
+    go k l (inr f) h = clash h (list_all_at p (range_with_len 0 n) k 0 (rw length-range_with_len l) (rw (get_or-range_with_len 0 n k 0 l, zero-add) f))
+
 module _ (r t : List ℕ) (p y : ℕ) (s : sound r ≡ true) (z : sized t ≡ true) (w : well_formed t ≡ true) where
-  off : ¬ ((p < columns (device_of r)) × (y < 2 * max_rows)) → false ≡ fits (device_of r) (book_of r) t p y
-  off h =
-      sym (is_false _ (λ f.
+  pub off : ((p < columns (device_of r)) × (y < 2 * max_rows) → ⊥) → (ok : Bool) → ok ≡ false → ok ≡ fits (device_of r) (book_of r) t p y
+  off h ok f =
+      f ∙ sym (is_false _ (λ f.
       let (u, v) = fits_below (device_of r) (book_of r) t p y w (sized_to t z).some_blocks f in
       h (u, omega (arith, (limits_to (device_of r) (book_of r) (sound_within r s)).rows))))
-
-  pub off_column : get_or r columns_at 0 ≤ p → false ≡ fits (device_of r) (book_of r) t p y
-  off_column h = off (λ (u, v). omega (arith, columns_said r))
-
-  pub off_bottom : 2 * max_rows ≤ y → false ≡ fits (device_of r) (book_of r) t p y
-  off_bottom h = off (λ (u, v). omega arith)
-
-  -- block i can be moved
-  pub movable : (i : ℕ) → i < blocks t → p < get_or r columns_at 0 → y < 2 * max_rows → Movable r (block t i) p y
-  movable i l q h = record { sound = s; solid = solid_block t w i l; column = omega (arith, few_columns r s); bottom = h }
-
--- the blocks below i fit
-pub record Fit (r t : List ℕ) (p y i : ℕ) : Type 0 where
-  pub within : i ≤ blocks t
-  pub fit : (k : ℕ) → k < i → block_fits (device_of r) (book_of r) (block t k) p y ≡ true
-
-module _ (r t : List ℕ) (p y : ℕ) where
-  pub fit_none : Fit r t p y 0
-  fit_none = record { within = omega arith; fit = λ k l. absurd (omega arith) }
-
-  pub fit_next : (i : ℕ) → Fit r t p y i → i < blocks t → (ok : Bool) → ok ≡ block_fits (device_of r) (book_of r) (block t i) p y → ok ≡ true → Fit r t p y (i + 1)
-  fit_next i f l ok e h = record {
-    within = omega arith;
-    fit = λ k g. last_or (λ x. block_fits (device_of r) (book_of r) (block t x) p y ≡ true) i k (omega arith) (f.fit k) (sym e ∙ h);
-  }
-
-  pub fit_all : (i : ℕ) → Fit r t p y i → blocks t ≤ i → true ≡ fits (device_of r) (book_of r) t p y
-  fit_all i f l = sym (fits_of (device_of r) (book_of r) t p y (λ k g. fitting_to (device_of r) (book_of r) (block t k) p y (f.fit k (omega (arith, f.within)))))
-
-  pub misfit : (i : ℕ) → i < blocks t → (ok : Bool) → ok ≡ block_fits (device_of r) (book_of r) (block t i) p y → ok ≡ false → false ≡ fits (device_of r) (book_of r) t p y
-  misfit i l ok e h =
-      sym (is_false _ (λ f. clash (fitting_of (device_of r) (book_of r) (block t i) p y (fits_to (device_of r) (book_of r) t p y f i l)) (sym e ∙ h)))

@@ -1,14 +1,16 @@
 -- MODEL 9.9: why `sound` is right. In a sound record every running task passes each test and may be entered after those before it, and a record that
 -- is equal to what was rebuilt is sound. Assumes nothing.
 use Prim.Native.Nat.{ℕ, suc, ◌+◌, ◌-◌, ◌*◌, ◌%◌, ◌≤◌, ◌<◌}
-use Rattle.std.specs.Prelude.{◌≡◌, refl, ◌⊎◌, Bool, true, false, List, [], length, get_or, take, drop}
-use Rattle.std.proofs.Common.{sym, ap, ◌∙◌, inl, inr, true≢false, add-one, take-suc, take_all, length-take-le, le-leb, eq-eqb, ne_eqb}
+use Rattle.std.specs.Prelude.{◌≡◌, refl, ◌⊎◌, Bool, true, false, Option, None, Some, MatchOption, List, [], length, get_or, take, drop}
+use Rattle.std.proofs.Common.{sym, ap, ◌∙◌, inl, inr, add-one, take-suc, take_all, length-take-le, le-leb, eq-eqb, ne_eqb}
+use Rattle.std.specs.Borrow.{Bor}
+use Rattle.std.specs.Array.{IsWholeChunk}
 use Rattle.std.proofs.lemmas.Bool.{false≢true}
 use native.Mathlib.Omega.{arith}
 use Rattle.std.proofs.Math.Nat.{add-sub_cancel_left}
 use Rattle.std.proofs.Math.Dec.{ltb}
 use Rattle.runs.specs.Laws.Tests.{tests}
-use Rattle.model.specs.Limits.{max_running, max_number, max_blocks, block_size, record_size, words, rows_at, columns_at, running_at, kinds_at, max_columns}
+use Rattle.model.specs.Limits.{max_running, max_number, max_blocks, block_size, record_size, words, rows_at, columns_at, running_at, kinds_at}
 use Rattle.model.specs.Columns.{Device, device_ok}
 use Rattle.model.specs.Tasks.{word, sized, well_formed}
 use Rattle.model.specs.Book.{Running, fits}
@@ -17,6 +19,7 @@ use Rattle.model.specs.Sound.{number_ok, block_count, sound}
 use Rattle.model.specs.Calls.{insert}
 use Rattle.model.specs.Bounded.{In}
 use Rattle.model.specs.InPlace.{no_entry}
+use Rattle.model.proofs.Laws.Tasks.{sized_to}
 use Rattle.model.proofs.Laws.Bounded.{clash, is_false, same_test, true_or_false}
 use Rattle.model.proofs.Laws.Limits.{Entry, limits_to, within_device}
 use Rattle.model.proofs.Laws.Split.{fits_split}
@@ -27,10 +30,9 @@ use Rattle.model.proofs.Laws.WriteBack.{Bytes}
 use Rattle.model.proofs.Laws.ReadBack.{get_d_in, device_of_record, book_of_record}
 use Rattle.model.proofs.Laws.Sound.{running_said, record_sound, sound_length, sound_within, sound_record}
 use Rattle.words.specs.Words.{Same}
-use Rattle.record.specs.Entries.{entry_of, blocks_of, bytes_entry, HasEntry}
+use Rattle.record.specs.Entries.{entry_of, blocks_of, bytes_entry, HasEntry, HasTask}
 use Rattle.record.specs.Rebuild.{prior, Passes, Ready, Tried, Rebuilt, Step}
 use Rattle.record.specs.Laws.Said.{number_said, in_book, entry_by_bytes, blocks_length}
-use Rattle.record.specs.Laws.Fits.{few_columns}
 use Rattle.record.specs.Laws.Before.{prior_below, prior_above, insert_last, fits_among}
 
 -- whether its number n rises, from its bytes and those of the entry before it
@@ -88,30 +90,21 @@ module _ (r : List ℕ) (j : ℕ) (x : HasEntry r j) where
   pub refused_many : (n : ℕ) → n ≡ block_count r j → max_blocks < n → sound r ≡ false
   refused_many n e h = is_false (sound r) (λ s. omega (arith, (sound_passes r j x s).few_blocks))
 
+  -- an entry without a task
+  pub refused_entry : (HasTask r j → ⊥) → sound r ≡ false
+  refused_entry h = is_false (sound r) (λ s.
+      let (one, most) = count_sound r j x s in
+      h (record { few = most; sized = blocks_sized r j x one most; well_formed = sound_formed r j x s }))
+
+  -- and one that has a task, and whose number rises
+  pub passed : (ok : Bool) → ok ≡ ltb (prior 0 (book_of r) j) (entry_of r j).number → ok ≡ true → HasTask r j → Passes r j
+  passed ok e t h =
+      let q = sym e ∙ t in
+      let n = sized_to (blocks_of r j) h.sized in
+      record { rises = omega tests; some_blocks = omega (arith, n.some_blocks, n.whole, blocks_length r j x h.few); few_blocks = h.few }
+
   pub passes : (ok : Bool) → ok ≡ ltb (prior 0 (book_of r) j) (entry_of r j).number → ok ≡ true → (n : ℕ) → n ≡ block_count r j → (n ≡ 0 → ⊥) → n ≤ max_blocks → Passes r j
   passes ok e t n c some few = let h = sym e ∙ t in record { rises = omega tests; some_blocks = omega arith; few_blocks = omega arith }
-
--- ---- a task is tried
-
-module _ (s t : List ℕ) (n p y : ℕ) where
-  -- refused: it is not well-formed, or does not fit, and the record stays
-  tried_not : (well_formed t ≡ true → fits (device_of s) (book_of s) t p y ≡ true → ⊥) → Tried s t n p y s false
-  tried_not k = record {
-    formed = λ h. absurd (false≢true h);
-    fitted = λ h. absurd (false≢true h);
-    entered = λ h. absurd (false≢true h);
-    refused = λ h. k;
-  }
-
-  pub tried_formless : (ok : Bool) → ok ≡ well_formed t → ok ≡ false → Tried s t n p y s false
-  tried_formless ok e f = tried_not (λ w g. clash w (sym e ∙ f))
-
-  pub tried_misfit : (ok : Bool) → ok ≡ fits (device_of s) (book_of s) t p y → ok ≡ false → Tried s t n p y s false
-  tried_misfit ok e f = tried_not (λ w g. clash g (sym e ∙ f))
-
-  pub tried_entered : (u : List ℕ) → well_formed t ≡ true → fits (device_of s) (book_of s) t p y ≡ true
-      → u ≡ record_of (device_of s) (insert (record { number = n; column = p; bottom = y; task = t }) (book_of s)) → Tried s t n p y u true
-  tried_entered u w f e = record { formed = λ h. w; fitted = λ h. f; entered = λ h. e; refused = λ h. absurd (true≢false h) }
 
 -- ---- the scratch record s, with j tasks of r entered
 
@@ -138,13 +131,13 @@ module _ (r s : List ℕ) (j : ℕ) (m : Rebuilt r s j) where
           rw (le-leb 1 (word r (entry_at j)) (omega (arith, t.rises, number_said r j x.runs))) (le-leb (word r (entry_at j)) max_number (omega (arith, small)))
 
       -- entry j can be entered
-      pub entry_ready : Ready s (blocks_of r j) (word r (entry_at j))
-      entry_ready = record {
+      pub entry_ready : (e : Running) → e ≡ bytes_entry r j → Ready s e.task e.number
+      entry_ready e is = rw is (record {
         sound = ap sound m.bytes ∙ record_sound (device_of r) (take j (book_of r)) m.limits;
         sized = blocks_sized r j x t.some_blocks t.few_blocks;
         number = number_fits;
         room = rw (scratch_book, length-take-le j (book_of r) (omega (arith, in_book r j x))) (omega (arith, x.few, x.runs));
-      }
+      })
 
       -- one task more
       rebuilt_next : (n : ℕ) → n ≡ j + 1 → (u : List ℕ) → (let e = bytes_entry r j in Tried s e.task e.number e.column e.bottom u true) → Rebuilt r u n
@@ -153,16 +146,17 @@ module _ (r s : List ℕ) (j : ℕ) (m : Rebuilt r s j) where
           let d = device_of r in
           let y = entry_of r j in
           let is = entry_by_bytes r j x t.few_blocks in
+          let ready = entry_ready (bytes_entry r j) refl in
           let f : fits d (take j b) y.task y.column y.bottom ≡ true = rw is (rw (scratch_device, scratch_book) at (v.fitted refl)) in
           let more : insert y (take j b) ≡ take n b = rw (k, add-one) (insert_last y (take j b) below_number ∙ sym (take-suc b j no_entry (in_book r j x))) in
           let number = number_said r j x.runs in
           record {
             bytes = v.entered refl ∙ (rw (scratch_device, scratch_book, ← is) (ap (record_of d) more));
-            limits = rw more at (insert_within d (take j b) m.limits y (rw scratch_book at entry_ready.room)
+            limits = rw more at (insert_within d (take j b) m.limits y (rw scratch_book at ready.room)
                 (record {
                   number_one = omega (arith, t.rises);
                   number = omega (arith, small);
-                  sized = rw is entry_ready.sized;
+                  sized = rw is ready.sized;
                   well_formed = rw is (v.formed refl);
                   fits = ((fits_split d (take j b) y.task y.column y.bottom).0 f).0;
                 })
@@ -170,8 +164,8 @@ module _ (r s : List ℕ) (j : ℕ) (m : Rebuilt r s j) where
           }
 
       -- THEOREM: where entry j is entered, it is so as the record has it; and where it is refused, the record is not sound
-      pub entry_tried : (n : ℕ) → n ≡ j + 1 → (u : List ℕ) (ok : Bool) → (let e = bytes_entry r j in Tried s e.task e.number e.column e.bottom u ok) → Step r u n ok
-      entry_tried n k u ok v = record {
+      pub entry_tried : (e : Running) → e ≡ bytes_entry r j → (n : ℕ) → n ≡ j + 1 → (u : List ℕ) (ok : Bool) → Tried s e.task e.number e.column e.bottom u ok → Step r u n ok
+      entry_tried e is n k u ok w = let v : (let b = bytes_entry r j in Tried s b.task b.number b.column b.bottom u ok) = rw is at w in record {
         made = λ e. rebuilt_next n k u (rw e at v);
         refused = λ e. is_false (sound r) (λ y. v.refused e (sound_formed r j x y) (rw (scratch_device, scratch_book) (sound_fits r j x y)));
       }
@@ -180,13 +174,10 @@ module _ (r s : List ℕ) (j : ℕ) (m : Rebuilt r s j) where
 pub step_refused : (r s : List ℕ) (n : ℕ) → sound r ≡ false → Step r s n false
 step_refused r s n h = record { made = λ e. absurd (false≢true e); refused = λ e. h }
 
-pub step_made : (r s : List ℕ) (n : ℕ) → Rebuilt r s n → Step r s n true
-step_made r s n m = record { made = λ e. m; refused = λ e. absurd (true≢false e) }
-
 -- ---- the whole record
 
 -- the device that r says, by its kind bytes
-pub device_said : (r : List ℕ) (n k : ℕ) → length r ≡ record_size → n ≡ word r rows_at → k ≡ get_or r columns_at 0 → k ≤ max_columns
+pub device_said : (r : List ℕ) (n k : ℕ) → length r ≡ record_size → n ≡ word r rows_at → k ≡ get_or r columns_at 0 → k < 256
     → record { rows = n; kinds = take (kinds_at + k - kinds_at) (drop kinds_at r) } ≡ device_of r
 unfolding device_of part
 device_said r n k l p q h =
@@ -195,9 +186,6 @@ device_said r n k l p q h =
 module _ (r : List ℕ) where
   pub refused_length : (length r ≡ record_size → ⊥) → false ≡ sound r
   refused_length h = sym (is_false (sound r) (λ s. h (sound_length r s)))
-
-  pub refused_columns : max_columns < get_or r columns_at 0 → false ≡ sound r
-  refused_columns h = sym (is_false (sound r) (λ s. omega (arith, few_columns r s)))
 
   pub refused_device : (d : Device) (ok : Bool) → d ≡ device_of r → ok ≡ device_ok d → ok ≡ false → false ≡ sound r
   refused_device d ok e v f = let h = ap device_ok (sym e) ∙ sym v ∙ f in sym (is_false (sound r) (λ s. clash (within_device (device_of r) (book_of r) (sound_within r s)) h))
@@ -222,3 +210,9 @@ module _ (r : List ℕ) where
       go : (ok ≡ true) ⊎ (ok ≡ false) → r ≡ s → ok ≡ true
       go (inl t) q = t
       go (inr f) q = absurd (e.no f q)
+
+-- bytes that are looked at only where they have the length of a record
+pub sound_array : (r : List ℕ) (a : Option (Bor (List ℕ))) (ok : Bool) → MatchOption a (length r ≡ record_size → ⊥) (λ y. IsWholeChunk r y.now record_size)
+    → MatchOption a (ok ≡ false) (λ y. ok ≡ sound y.now) → ok ≡ sound r
+sound_array r None ok h e = e ∙ refused_length r h
+sound_array r (Some y) ok h e = e ∙ ap sound h.same

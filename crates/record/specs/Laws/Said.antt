@@ -3,7 +3,7 @@ use Rattle.std.specs.Prelude.{ℕ, ◌+◌, ◌*◌, ◌≤◌, ◌<◌, ◌≡�
 use Rattle.std.proofs.Common.{ap, ◌∙◌, arith}
 use Rattle.std.proofs.Math.Nat.{add-zero, add-sub_cancel_left}
 use Rattle.model.specs.Limits.{max_blocks, block_size, running_at, entry_size, blocks_at}
-use Rattle.model.specs.Tasks.{word, blocks}
+use Rattle.model.specs.Tasks.{word}
 use Rattle.model.specs.Book.{Running}
 use Rattle.model.specs.Record.{part, entry_at, running_of, book_of}
 use Rattle.model.specs.Sound.{block_count}
@@ -45,8 +45,3 @@ module _ (r : List ℕ) (j : ℕ) (x : HasEntry r j) where
 
     pub blocks_length : length (blocks_of r j) ≡ block_size * block_count r j
     blocks_length = rw (blocks_part r j) (length_part r (entry_at j + blocks_at) (block_size * block_count r j) (omega (arith, x.size, x.few, x.runs)))
-
-    -- how many blocks its task has
-    pub blocks_said : blocks (entry_of r j).task ≡ block_count r j
-    unfolding blocks
-    blocks_said = rw entry_by_bytes (omega (arith, blocks_length))

@@ -1,20 +1,27 @@
--- `record::device::device_ok`: the bounds one after the other, then the kinds. Assumes nothing.
-use mathlib.Core.Path.{◌∙◌}
-use native.Mathlib.Omega.{arith}
-use Rattle.record.specs.Laws.Device.{no_rows, many_rows, no_columns, many_columns, by_kinds}
+-- `record::device::device_ok`: the bounds one after the other, then the kinds (`no_device`, `by_kinds`). Assumes nothing.
+use Rattle.std.proofs.Common.{◌≤◌, ◌↔◌, ◌≡◌, true, length, sym, ◌∙◌, rules}
+use Rattle.model.specs.Limits.{max_rows, max_columns}
+use Rattle.model.proofs.Laws.Bounded.{clash}
+use Rattle.record.specs.Laws.Device.{no_device, by_kinds}
 use Rattle.record.proofs.device.device_ok.Goals as goal
+use Rattle.record.proofs.device.device_ok.Goals.{then-contains, else-contains}
 
-pub returns-then-rows-lt1 : goal.returns-then-rows-lt1
-returns-then-rows-lt1 c = no_rows _ c.if-rows-lt1.true
+pub returns-then-contains-2 : goal.returns-then-contains-2
+returns-then-contains-2 c =
+    let a : (c.contains.result ≡ true) ↔ ((1 ≤ c.args.rows) × (c.args.rows ≤ max_rows)) = search rules in
+    elim c.if-contains.branch [
+      | then-contains w ↦
+          let b : (w.contains-then-contains.result ≡ true) ↔ ((1 ≤ length c.args.kinds.now) × (length c.args.kinds.now ≤ max_columns)) = search rules in
+          c.kinds_ok.ensures ∙ by_kinds _ (a.0 w.if-contains.true) (b.0 (sym w.value-is ∙ c.if-contains-2.true))
+      | else-contains w ↦ clash c.if-contains-2.true (w.value-is ∙ w.if-contains.false)
+    ]
 
-pub returns-then-rows-gt-MAX_ROWS : goal.returns-then-rows-gt-MAX_ROWS
-returns-then-rows-gt-MAX_ROWS c = many_rows _ (omega arith) c.if-rows-gt-MAX_ROWS.true
-
-pub returns-then-kinds-lt1 : goal.returns-then-kinds-lt1
-returns-then-kinds-lt1 c = no_columns _ (omega arith) (omega arith) c.if-kinds-lt1.true
-
-pub returns-then-kinds-gt-MAX_COLUMNS : goal.returns-then-kinds-gt-MAX_COLUMNS
-returns-then-kinds-gt-MAX_COLUMNS c = many_columns _ (omega arith) (omega arith) (omega arith) c.if-kinds-gt-MAX_COLUMNS.true
-
-pub returns : goal.returns
-returns c = c.kinds_ok.ensures ∙ by_kinds _ (omega arith) (omega arith) (omega arith) (omega arith)
+pub returns-else-contains-2 : goal.returns-else-contains-2
+returns-else-contains-2 c =
+    let a : (c.contains.result ≡ true) ↔ ((1 ≤ c.args.rows) × (c.args.rows ≤ max_rows)) = search rules in
+    c.if-contains-2.false ∙ no_device _ (elim c.if-contains.branch [
+      | then-contains w ↦
+          let b : (w.contains-then-contains.result ≡ true) ↔ ((1 ≤ length c.args.kinds.now) × (length c.args.kinds.now ≤ max_columns)) = search rules in
+          λ p q. clash (b.1 q) (sym w.value-is ∙ c.if-contains-2.false)
+      | else-contains w ↦ λ p q. clash (a.1 p) w.if-contains.false
+    ])

@@ -1,65 +1,74 @@
--- Answers of `record::leave::free_blocks`.
-use native.Mathlib.Omega.{arith}
-use Rattle.model.specs.Record.{part}
-use Rattle.record.proofs.Laws.Leave.{in_entries, freeing, freed_length, blocks_there, all_freed, block_there, join_room, block_freed}
+-- `record::leave::free_blocks`: each block's run is joined to its column (`join_room`, `block_freed`). Assumes nothing.
+use Rattle.std.proofs.Common.{◌≡◌, ◌+◌, ◌∙◌, rules, arith}
+use Rattle.runs.specs.Intervals.{unite}
+use Rattle.model.specs.Limits.{column_size}
+use Rattle.model.specs.Tasks.{blocks}
+use Rattle.model.specs.Record.{part, column_at}
+use Rattle.model.specs.Sound.{count_of}
+use Rattle.column.specs.Part.{Changed}
+use Rattle.record.specs.Edit.{run_of}
+use Rattle.record.specs.Entries.{entry_of}
+use Rattle.record.specs.Laws.Columns.{put_changed}
+use Rattle.record.specs.Laws.Join.{freed_none}
+use Rattle.record.proofs.Laws.Leave.{entry_on, has_task, blocks_here, task_stays, task_same, seated, join_room, block_freed, all_freed}
 use Rattle.record.proofs.leave.free_blocks.Goals as goal
 
-pub read_entry-entry-requires : goal.read_entry-entry-requires
-read_entry-entry-requires c = in_entries _ _ c.requires
+pub position_at-at-requires : goal.position_at-at-requires
+position_at-at-requires c = entry_on _ _ c.requires
 
-pub loop-i-init : goal.loop-i-init
-loop-i-init c = freeing _ _ _ c.requires (λ i. omega (arith, c.slice_known-1.given i)) c.read_entry-entry.ensures
+pub task_at-requires-clause-entry : goal.task_at-requires-clause-entry
+task_at-requires-clause-entry c = entry_on _ _ c.requires
 
-pub slice_bounds-block_at-count : goal.slice_bounds-block_at-count
-slice_bounds-block_at-count c = (blocks_there c.loop-i.invariant).0
+pub task_at-requires-clause-task : goal.task_at-requires-clause-task
+task_at-requires-clause-task c = has_task _ _ c.requires
 
-pub slice_bounds-block_at-end : goal.slice_bounds-block_at-end
-slice_bounds-block_at-end c = let b = blocks_there c.loop-i.invariant in omega arith
+pub loop-k-init : goal.loop-k-init
+loop-k-init c = freed_none _ _ c.fits-record c.requires.sound
 
-pub block_at-block-requires : goal.block_at-block-requires
-unfolding part
-block_at-block-requires c = let x = block_there c.loop-i.invariant c.loop-i-test.true in (x.whole, x.kind)
+pub task_at-requires-in-loop-k-clause-entry : goal.task_at-requires-in-loop-k-clause-entry
+task_at-requires-in-loop-k-clause-entry c = entry_on _ _ c.requires
 
-pub overflow_add-c : goal.overflow_add-c
-unfolding part
-overflow_add-c c = let x = block_there c.loop-i.invariant c.loop-i-test.true in omega (arith, c.block_at-block.ensures.column, x.column)
+pub task_at-requires-in-loop-k-clause-task : goal.task_at-requires-in-loop-k-clause-task
+task_at-requires-in-loop-k-clause-task c = task_stays _ _ c.requires c.fits-record _ _ c.loop-k.invariant
 
-pub overflow_cast-c : goal.overflow_cast-c
-unfolding part
-overflow_cast-c c = let x = block_there c.loop-i.invariant c.loop-i-test.true in omega (arith, c.block_at-block.ensures.column, x.column)
+pub block-block-requires : goal.block-block-requires
+block-block-requires c =
+    let n = blocks_here _ _ c.requires _ _ c.task_at.ensures c.count-k-end.ensures.count in
+    let e = c.task_at-in-loop-k.ensures ∙ task_same _ _ c.requires c.fits-record _ _ c.loop-k.invariant in
+    rw e (omega arith)
 
-pub overflow_add-entry : goal.overflow_add-entry
-unfolding part
-overflow_add-entry c = let x = block_there c.loop-i.invariant c.loop-i-test.true in omega (arith, c.block_at-block.ensures.low, x.full, x.high)
+pub edit_block-requires-clause-seated : goal.edit_block-requires-clause-seated
+edit_block-requires-clause-seated c =
+    let n = blocks_here _ _ c.requires _ _ c.task_at.ensures c.count-k-end.ensures.count in
+    seated _ _ c.requires c.fits-record _ _ c.loop-k.invariant (omega arith) _ c.task_at-in-loop-k.ensures _ c.block-block.ensures _ _ c.position_at-at.ensures.column c.position_at-at.ensures.bottom
 
-pub overflow_sub-entry : goal.overflow_sub-entry
-unfolding part
-overflow_sub-entry c = let x = block_there c.loop-i.invariant c.loop-i-test.true in omega (arith, c.block_at-block.ensures.low, x.low)
+pub edit_block-requires-clause-edits : goal.edit_block-requires-clause-edits
+edit_block-requires-clause-edits c =
+    let n = blocks_here _ _ c.requires _ _ c.task_at.ensures c.count-k-end.ensures.count in
+    let m = join_room _ _ c.requires c.fits-record _ _ c.loop-k.invariant (omega arith) _ c.task_at-in-loop-k.ensures _ c.block-block.ensures _ _ c.position_at-at.ensures.column c.position_at-at.ensures.bottom in
+    search rules
 
-pub overflow_add-entry-in-loop-i : goal.overflow_add-entry-in-loop-i
-unfolding part
-overflow_add-entry-in-loop-i c = let x = block_there c.loop-i.invariant c.loop-i-test.true in omega (arith, c.block_at-block.ensures.high, x.high)
+pub edit_block-requires-clause-few : goal.edit_block-requires-clause-few
+edit_block-requires-clause-few c = λ q n k.
+    let i = run_of c.block-block.result c.position_at-at.result.bottom in
+    let p = c.position_at-at.result.column + c.block-block.result.column in
+    let x : Changed (unite i.bottom i.top) (part c.loop-k.record (column_at p) column_size) (count_of c.loop-k.record p) q n = search rules in
+    let e = blocks_here _ _ c.requires _ _ c.task_at.ensures c.count-k-end.ensures.count in
+    let m = join_room _ _ c.requires c.fits-record _ _ c.loop-k.invariant (omega arith) _ c.task_at-in-loop-k.ensures _ c.block-block.ensures _ _ c.position_at-at.ensures.column c.position_at-at.ensures.bottom in
+    omega (arith, x.count_is, m.has_room.room)
 
-pub overflow_sub-entry-in-loop-i : goal.overflow_sub-entry-in-loop-i
-unfolding part
-overflow_sub-entry-in-loop-i c = let x = block_there c.loop-i.invariant c.loop-i-test.true in omega (arith, c.block_at-block.ensures.high, x.full, x.low)
-
-pub join_column-requires : goal.join_column-requires
-unfolding part
-join_column-requires c = join_room c.loop-i.invariant c.loop-i-test.true _ c.block_at-block.ensures
-
-pub overflow_add-i : goal.overflow_add-i
-overflow_add-i c = omega arith
-
-pub loop-i-smaller : goal.loop-i-smaller
-loop-i-smaller c = omega arith
-
-pub loop-i-preserved : goal.loop-i-preserved
-unfolding part
-loop-i-preserved c = block_freed c.loop-i.invariant c.loop-i-test.true _ c.block_at-block.ensures _ c.join_column.ensures
-
-pub shape_of-record : goal.shape_of-record
-shape_of-record c = freed_length c.loop-i.invariant
+pub loop-k-preserved : goal.loop-k-preserved
+loop-k-preserved c =
+    let i = run_of c.block-block.result c.position_at-at.result.bottom in
+    let p = c.position_at-at.result.column + c.block-block.result.column in
+    let (q, m, k, e) = c.edit_block.ensures in
+    let x : Changed (unite i.bottom i.top) (part c.loop-k.record (column_at p) column_size) (count_of c.loop-k.record p) q m = search rules in
+    let n = blocks_here _ _ c.requires _ _ c.task_at.ensures c.count-k-end.ensures.count in
+    block_freed _ _ c.requires c.fits-record _ _ c.loop-k.invariant (omega arith) _ c.task_at-in-loop-k.ensures _ c.block-block.ensures _ _ c.position_at-at.ensures.column c.position_at-at.ensures.bottom
+    _ (e ∙ put_changed _ _ _ _ _ x)
 
 pub returns : goal.returns
-returns c = all_freed c.loop-i.invariant c.loop-i-test.false
+returns c =
+    let n = blocks_here _ _ c.requires _ _ c.task_at.ensures c.count-k-end.ensures.count in
+    let e : c.loop-k.k ≡ blocks (entry_of c.args.record.now c.args.j).task = omega arith in
+    all_freed _ _ _ (rw e at c.loop-k.invariant)

@@ -1,10 +1,10 @@
--- `record::leave::free_blocks`: the first i blocks are freed (`Freeing`). Assumes nothing.
-use Prim.Native.Nat.{◌-◌}
-use Rattle.record.proofs.Laws.Leave.{Freeing}
+-- `record::leave::free_blocks`: the first k blocks are freed. Assumes nothing.
+use Rattle.std.proofs.Common.{◌≡◌}
+use Rattle.model.specs.Book.{standing}
+use Rattle.model.specs.Record.{device_of, book_of}
+use Rattle.record.specs.Entries.{entry_of}
+use Rattle.record.specs.Leave.{freed}
 use Rattle.record.proofs.leave.free_blocks.Given as goal
 
-abbrev pub invariant-loop-i : goal.invariant-loop-i
-invariant-loop-i l = Freeing l.initial.record l.k l.entry l.record l.i
-
-abbrev pub decreases-loop-i : goal.decreases-loop-i
-decreases-loop-i l = l.entry.count - l.i
+abbrev pub invariant-loop-k : goal.invariant-loop-k
+invariant-loop-k l = l.record ≡ freed (device_of l.initial.record) (book_of l.initial.record) (standing (entry_of l.initial.record l.j)) l.k

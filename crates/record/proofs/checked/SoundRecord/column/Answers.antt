@@ -8,4 +8,4 @@ pub slice_bounds-result-end : goal.slice_bounds-result-end
 slice_bounds-result-end c = omega (arith, sound_length _ c.args.self.sound)
 
 pub invariant_of-result : goal.invariant_of-result
-invariant_of-result c = record { listed = rw c.from.ensures (column_lent _ c.args.self.sound _ c.requires) }
+invariant_of-result c = record { listed = rw (c.part_at.ensures.end, c.part_at.ensures.start, c.from.ensures) (column_lent _ c.args.self.sound _ c.requires) }
