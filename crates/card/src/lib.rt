@@ -217,8 +217,8 @@ pub fn fragmentation(record: &[u8]) -> Result<Fragmentation, Refusal>
     ensures small { IfOk result (λ f. (f.sets < 2 ^ 31) × (f.free < 2 ^ 31) × (f.degree < 2 ^ 31)) }
 {
     let record = check_record(record)?;
-    let sets = fragments::connected::count_sets(record.bytes);
-    let free = fragments::free::count_free(record.bytes);
+    let sets = fragments::connected::count_sets(record);
+    let free = fragments::free::count_free(record);
     Ok(Fragmentation {
         sets,
         free,

@@ -1,55 +1,64 @@
 // MODEL 22.1: two neighbouring columns. One pointer goes along the intervals of each, and those that share a half row become one set.
-ghost use Rattle.std.specs.Prelude.{◌≡◌, ◌+◌, ◌≤◌, ◌<◌, length};
+ghost use Rattle.std.specs.Prelude.{◌≡◌, ◌+◌, ◌≤◌, ◌<◌};
+ghost use Rattle.std.specs.Int.{from_bool};
 ghost use Rattle.runs.specs.Intervals.{interval};
-ghost use Rattle.column.specs.Part.{Part};
-ghost use Rattle.sets.specs.Forest.{Parents, Joins};
+ghost use Rattle.sets.specs.Forest.{Joins};
 ghost use Rattle.fragments.specs.Sweep.{shares as sharing, edge_if, edges, sides};
 
-use column::{Interval, read};
-use sets::unite;
+use column::{Column, Interval};
+use sets::Forest;
 
-// Do two intervals share a half row?
-fn shares(x: Interval, y: Interval) -> bool
-    ensures { result ≡ sharing (interval x.bottom x.top) (interval y.bottom y.top) }
-{
-    x.bottom < y.top && y.bottom < x.top
+// An interval, and its node.
+#[derive(Clone, Copy)]
+struct Node {
+    number: usize,
+    rows: Interval,
 }
 
-// Makes one set of the sets of the nodes i and j if their intervals share a half row. The answer is 1 if they were two sets.
-fn meet(parents: &mut [u16], x: Interval, y: Interval, i: usize, j: usize) -> u32
-    requires { Parents parents.old × (i < length parents.old) × (j < length parents.old) }
-    ensures { Joins (edge_if (sharing (interval x.bottom x.top) (interval y.bottom y.top)) (i, j)) parents.old parents.new result × (result ≤ 1) }
-{
-    if !shares(x, y) {
-        return 0;
+impl Node {
+    // Do the two intervals share a half row?
+    #[tactic(auto, unfolding(crate::specs::Sweep::shares))]
+    fn shares(self, other: Node) -> bool
+        ensures { result ≡ sharing (interval self.rows.bottom self.rows.top) (interval other.rows.bottom other.rows.top) }
+    {
+        self.rows.bottom < other.rows.top && other.rows.bottom < self.rows.top
     }
-    if unite(parents, i, j) {
-        return 1;
-    }
-    0
 }
 
-// Makes one set of the sets of every two intervals that share a half row: of the columns' parts, with their numbers of intervals. `base` is the node
-// of the first interval on the left; those on the right follow. The answer is how often two sets became one.
-pub fn sweep(
-    parents: &mut [u16],
-    left: &[u8],
-    right: &[u8],
-    lefts: usize,
-    rights: usize,
+// Makes one set of the sets of two intervals if these share a half row. The answer is whether they were two sets.
+fn meet<const N: usize>(forest: &mut Forest<N>, x: Node, y: Node) -> bool
+    requires { (x.number < N) × (y.number < N) }
+    ensures { Joins (edge_if (sharing (interval x.rows.bottom x.rows.top) (interval y.rows.bottom y.rows.top)) (x.number, y.number)) forest.old.parents forest.new.parents (from_bool result) }
+{
+    x.shares(y) && forest.unite(x.number, y.number)
+}
+
+// Makes one set of the sets of every two intervals that share a half row. `base` is the node of the first interval on the left; those on the right
+// follow. The answer is how often two sets became one.
+pub fn sweep<const N: usize>(
+    forest: &mut Forest<N>,
+    left: Column,
+    right: Column,
     base: usize,
 ) -> u32
-    requires { Parents parents.old × Part left.now lefts × Part right.now rights × (base + lefts + rights ≤ length parents.old) }
-    ensures { Joins (edges (sides left.now right.now lefts rights base)) parents.old parents.new result × (result ≤ lefts + rights) }
+    requires { base + left.count + right.count ≤ N }
+    ensures joins { Joins (edges (sides left.entry.part.now right.entry.part.now left.entry.count right.entry.count base)) forest.old.parents forest.new.parents result }
+    ensures few { result ≤ left.entry.count + right.entry.count }
 {
-    let mut joins: u32 = 0;
-    let mut i: usize = 0;
-    let mut j: usize = 0;
-    while i < lefts && j < rights {
-        let x = read(left, i);
-        let y = read(right, j);
-        joins += meet(parents, x, y, base + i, base + lefts + j);
-        if x.top <= y.top {
+    let mut joins = 0;
+    let mut i = 0;
+    let mut j = 0;
+    while i < left.count && j < right.count {
+        let x = Node {
+            number: base + i,
+            rows: left.interval(i),
+        };
+        let y = Node {
+            number: base + left.count + j,
+            rows: right.interval(j),
+        };
+        joins += u32::from(meet(forest, x, y));
+        if x.rows.top <= y.rows.top {
             i += 1;
         } else {
             j += 1;

@@ -5,4 +5,4 @@ use Rattle.card.proofs.fragmentation.Goals as goal
 pub returns-clause-tells : goal.returns-clause-tells
 returns-clause-tells c =
     let k = c.in_ok-record in
-    rw (← k.ensures) (fragmentation_told _ k.record.sound _ _ _ c.count_sets-sets.ensures.0 c.count_free-free.ensures.0 c.degree_of.ensures.0)
+    rw (← k.ensures) (fragmentation_told _ k.record.sound _ _ _ c.count_sets-sets.ensures.sets c.count_free-free.ensures.cells c.degree_of.ensures.degree)

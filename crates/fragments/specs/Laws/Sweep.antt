@@ -1,5 +1,6 @@
 -- MODEL 22.1: the sweep finds exactly the pairs that share a half row. Assumes nothing.
-use Rattle.std.specs.Prelude.{◌≡◌, ◌⊎◌, Bool, true, cond, not, ◌&&◌, leb, eqb, length}
+use Rattle.std.specs.Int.{from_bool}
+use Rattle.std.specs.Prelude.{◌≡◌, ◌⊎◌, Bool, true, cond, not, ◌&&◌, leb, eqb}
 use Rattle.std.proofs.Math.Path.{refl, ap}
 use Rattle.std.proofs.Common.{sym, ◌∙◌, inl, inr, true≢false, add-one}
 use Rattle.std.proofs.Math.Logic.{⊎_elim}
@@ -13,9 +14,9 @@ use Rattle.runs.specs.Laws.Tests.{cond_ind, lt_or_ge}
 use Rattle.runs.specs.Intervals.{Interval}
 use Rattle.model.proofs.Laws.Bounded.{and_to}
 use Rattle.sets.specs.Graph.{In}
-use Rattle.sets.specs.Forest.{Falls, at, unions, merges, union, root, Below, Joins}
+use Rattle.sets.specs.Forest.{unions, merges, union, root, Joins}
 use Rattle.sets.specs.Laws.Lists.{in_right, each_append}
-use Rattle.sets.specs.Laws.Unions.{unions_forest, length_unions, unions_append, merges_append}
+use Rattle.sets.specs.Laws.Unions.{unions_append, merges_append}
 use Rattle.fragments.specs.Sweep.{Sides, Shares, shares, edge, edge_if, swept, edges_from, edges, Sweeping, Alike}
 
 shares_to : (x y : Interval) → shares x y ≡ true → Shares x y
@@ -130,39 +131,25 @@ module _ (S : Sides) where
 
 -- ---- joins
 
-pub joins_none : (t : Bool) (e : ℕ × ℕ) (P : List ℕ) → t ≡ false → Joins (edge_if t e) P P 0
+pub joins_none : (t : Bool) (e : ℕ × ℕ) (P : List ℕ) (b : Bool) → t ≡ b → b ≡ false → Joins (edge_if t e) P P (from_bool b)
 unfolding edge_if unions merges
-joins_none t e P h = rw h record { parents_are = refl; count_is = refl }
+joins_none t e P b h q = rw (h, q) record { parents_are = refl; count_is = refl }
 
 pub joins_one : (t : Bool) (i j : ℕ) (P Q : List ℕ) (b : Bool) → t ≡ true → Q ≡ union P i j → b ≡ not (eqb (root P i) (root P j))
-    → Joins (edge_if t (i, j)) P Q (cond b 1 0)
+    → Joins (edge_if t (i, j)) P Q (from_bool b)
 unfolding edge_if unions merges
 joins_one t i j P Q b h q e = rw (h, e) record { parents_are = q; count_is = count (eqb (root P i) (root P j)) }
   where
-    count : (u : Bool) → ◌≡◌ {A = ℕ} (cond (not u) 1 0) (cond u 0 1 + 0)
+    count : (u : Bool) → from_bool (not u) ≡ cond u 0 1 + 0
     count true = refl
     count false = refl
-
-below_if : (m : ℕ) (t : Bool) (e : ℕ × ℕ) → (e.0 < m) × (e.1 < m) → Below m (edge_if t e)
-unfolding edge_if
-below_if m true e h d (inl k) = rw k h
-below_if m false e h d k = absurd k
-below_if m true e h d (inr x'') = elim x'' [ ]
 
 -- ---- the loop
 
 module _ (S : Sides) (P₀ : List ℕ) where
-  pub sweeping_start : Falls (at P₀) → Sweeping S P₀ P₀ 0 0 0
+  pub sweeping_start : Sweeping S P₀ P₀ 0 0 0
   unfolding edges
-  sweeping_start f = record {
-    in_left = omega arith;
-    in_right = omega arith;
-    falls = f;
-    size = refl;
-    few = omega arith;
-    parents_are = refl;
-    count_is = omega arith;
-  }
+  sweeping_start = record { in_left = omega arith; in_right = omega arith; few = omega arith; parents_are = refl; count_is = omega arith }
 
   module _ (P : List ℕ) (n i j : ℕ) (w : Sweeping S P₀ P n i j) where
     pub sweeping_end : (S.lefts ≤ i) ⊎ (S.rights ≤ j) → Joins (edges S) P₀ P n
@@ -171,18 +158,10 @@ module _ (S : Sides) (P₀ : List ℕ) where
         let e : edges_from S i j ≡ [] = turn_end S i j h in
         record { parents_are = rw e at w.parents_are; count_is = omega (arith, rw e at w.count_is) }
 
-    module _ (li : i < S.lefts) (lj : j < S.rights) (room : ((edge S i j).0 < length P₀) × ((edge S i j).1 < length P₀))
-        (x y : Interval) (ex : x ≡ S.left i) (ey : y ≡ S.right j) (Q : List ℕ) (r : ℕ) (small : r ≤ 1)
-        (h : Joins (edge_if (shares x y) (edge S i j)) P Q r) where
-      done : Falls (at Q) × (length Q ≡ length P₀)
-      done =
-          let s : Falls (at (unions P (edge_if (shares x y) (edge S i j)))) =
-          (unions_forest (length P) P record { size = omega arith; falls = w.falls } (edge_if (shares x y) (edge S i j))
-          (below_if (length P) (shares x y) (edge S i j) (rw w.size room))).falls in
-          (rw h.parents_are s, ap length h.parents_are ∙ length_unions P _ ∙ w.size)
-
+    module _ (li : i < S.lefts) (lj : j < S.rights) (x y : Interval) (ex : x ≡ S.left i) (ey : y ≡ S.right j) (Q : List ℕ) (b : Bool)
+        (h : Joins (edge_if (shares x y) (edge S i j)) P Q (from_bool b)) where
       on : (k l : ℕ) → edges_from S i j ≡ edge_if (shares x y) (edge S i j) ++ edges_from S k l
-          → (unions Q (edges_from S k l) ≡ unions P₀ (edges S)) × (n + r + merges Q (edges_from S k l) ≡ merges P₀ (edges S))
+          → (unions Q (edges_from S k l) ≡ unions P₀ (edges S)) × (n + from_bool b + merges Q (edges_from S k l) ≡ merges P₀ (edges S))
       on k l e =
           let E : List (ℕ × ℕ) = edge_if (shares x y) (edge S i j) in
           let a : unions P (E ++ edges_from S k l) ≡ unions (unions P E) (edges_from S k l) = unions_append P E (edges_from S k l) in
@@ -193,31 +172,23 @@ module _ (S : Sides) (P₀ : List ℕ) where
             omega (arith, b, c, d, h.count_is, w.count_is),
           )
 
-      pub sweeping_left : x.top ≤ y.top → Sweeping S P₀ Q (n + r) (i + 1) j
+      one : (b : Bool) → from_bool b ≤ 1
+      one true = omega arith
+      one false = omega arith
+
+      pub sweeping_left : x.top ≤ y.top → Sweeping S P₀ Q (n + from_bool b) (i + 1) j
       sweeping_left t =
           let e : edges_from S i j ≡ edge_if (shares x y) (edge S i j) ++ edges_from S (i + 1) j =
-          rw (ex, ey) (turn_left S i j li lj (rw (ex, ey) at t)) in record {
-            in_left = omega arith;
-            in_right = w.in_right;
-            falls = done.0;
-            size = done.1;
-            few = omega (arith, w.few);
-            parents_are = (on (i + 1) j e).0;
-            count_is = (on (i + 1) j e).1;
-          }
+          rw (ex, ey) (turn_left S i j li lj (rw (ex, ey) at t)) in
+          let (parents, count) = on (i + 1) j e in
+          record { in_left = omega arith; in_right = w.in_right; few = omega (arith, w.few, one b); parents_are = parents; count_is = count }
 
-      pub sweeping_right : y.top < x.top → Sweeping S P₀ Q (n + r) i (j + 1)
+      pub sweeping_right : y.top < x.top → Sweeping S P₀ Q (n + from_bool b) i (j + 1)
       sweeping_right t =
           let e : edges_from S i j ≡ edge_if (shares x y) (edge S i j) ++ edges_from S i (j + 1) =
-          rw (ex, ey) (turn_right S i j li lj (rw (ex, ey) at t)) in record {
-            in_left = w.in_left;
-            in_right = omega arith;
-            falls = done.0;
-            size = done.1;
-            few = omega (arith, w.few);
-            parents_are = (on i (j + 1) e).0;
-            count_is = (on i (j + 1) e).1;
-          }
+          rw (ex, ey) (turn_right S i j li lj (rw (ex, ey) at t)) in
+          let (parents, count) = on i (j + 1) e in
+          record { in_left = w.in_left; in_right = omega arith; few = omega (arith, w.few, one b); parents_are = parents; count_is = count }
 
 -- ---- the same columns, the same edges
 
@@ -247,17 +218,3 @@ module _ (S Z : Sides) (a : Alike S Z) where
   edges_alike =
       let e : S.lefts - 0 + (S.rights - 0) ≡ Z.lefts - 0 + (Z.rights - 0) = omega (arith, a.lefts_are, a.rights_are) in
       swept_alike (S.lefts - 0 + (S.rights - 0)) 0 0 ∙ ap (λ (f : ℕ). swept Z f 0 0) e
-
--- ---- after a sweep
-
-pub swept_forest : (S : Sides) (P Q : List ℕ) (r : ℕ) → Falls (at P) → S.left_base + S.lefts ≤ length P → S.right_base + S.rights ≤ length P → Joins (edges S) P Q r
-    → Falls (at Q) × (length Q ≡ length P)
-swept_forest S P Q r f l m j = (
-  rw j.parents_are (unions_forest (length P) P record { size = omega arith; falls = f } (edges S) below).falls,
-  ap length j.parents_are ∙ length_unions P (edges S),
-)
-  where
-    below : Below (length P) (edges S)
-    below e k =
-        let (x, y, q, lx, ly, s) = edges_sound S e k in
-        rw q (omega arith, omega arith)

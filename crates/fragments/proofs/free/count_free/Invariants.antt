@@ -1,13 +1,10 @@
 -- `fragments::free::count_free` meets its contract. Assumes nothing.
 use mathlib.Core.Path.{◌≡◌}
-use Prim.Native.Nat.{◌*◌, ◌-◌, ◌≤◌}
+use Prim.Native.Nat.{◌*◌, ◌≤◌}
 use Rattle.model.specs.Bounded.{sum_below}
-use Rattle.fragments.specs.Free.{spans}
+use Rattle.fragments.specs.Free.{spans, max_spans}
 use Rattle.fragments.specs.OnBytes.{runs_of}
 use Rattle.fragments.proofs.free.count_free.Given as goal
 
 abbrev pub invariant-loop-c : goal.invariant-loop-c
-invariant-loop-c l = (l.c ≤ l.columns) × (l.n ≡ sum_below l.c (λ k. spans (runs_of l.record k))) × (l.n ≤ 4194304 * l.c)
-
-abbrev pub decreases-loop-c : goal.decreases-loop-c
-decreases-loop-c l = l.columns - l.c
+invariant-loop-c l = record { cells : l.n ≡ sum_below l.c (λ k. spans (runs_of l.record.bytes.now k)); few : l.n ≤ max_spans * l.c }
