@@ -16,14 +16,9 @@ ghost use Rattle.card.specs.Checks.{RefusesRecord, RefusesTask, Refused, Uncount
 ghost use Rattle.card.specs.Answers.{answer_by, number_by, position_of};
 
 mod refusal; // the table of refusals
-mod old;
 mod answers; // what calls answer, and an answer as its number
 
 pub use answers::{Chosen, Fragmentation, answer};
-pub use old::{
-    TASK_LENGTH, card_choose, card_fragmentation, card_interval_count, card_list, card_new,
-    card_place, card_release,
-};
 use record::checked::{RecordFault, SoundRecord};
 pub use refusal::Refusal;
 use task::{Position, Task, TaskFault};

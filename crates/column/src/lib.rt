@@ -82,7 +82,7 @@ pub enum Held {
 }
 
 // A part that is written from its front, and how many intervals stand there. It borrows its bytes: as an array of its own they are zeroed three times,
-// and entering a card's tasks takes a fifth longer.
+// and the test of a full record takes a fifth longer.
 #[derive(Drop)]
 struct Draft<'a> {
     bytes: &'a mut [u8; COLUMN_SIZE],

@@ -1,36 +1,40 @@
 -- MODEL 17.1, 18.5, 18.6: the input's lines, and what its first three lead to. Assumes nothing.
-use Rattle.std.specs.Prelude.{ℕ, ◌+◌, ◌-◌, ◌≤◌, ◌≡◌, true, List, [], ◌∷◌, ℤ, length, take, drop}
-use Rattle.std.proofs.Math.Option.{Option, none, some}
+use Rattle.std.specs.Prelude.{ℕ, ◌≤◌, ◌<◌, ◌≡◌, true, Result, MatchResult, List, [], ◌∷◌, length}
+use Rattle.std.proofs.Common.{Bor}
+use Rattle.std.proofs.Math.Option.{some, Option as ModelOption}
 use Rattle.model.specs.Columns.{Device, device_ok}
 use Rattle.model.specs.Record.{record_of}
-use Rattle.model.specs.OnRecord.{new}
-use Rattle.model.specs.Sheet.{line_answer}
-use Rattle.model.specs.Program.{says, on_lines, lines}
-use Rattle.card.specs.Leaves.{Changes}
-use Rattle.desk.specs.declared.input.Begun.{Begun}
-use Rattle.desk.specs.declared.input.Begun.TheVariants.{Ready, Fault}
+use Rattle.model.specs.Program.{with_device, on_lines, lines}
+use Rattle.desk.specs.declared.fault.Fault.{Fault}
+use Rattle.desk.specs.Fault.{shown_fault}
 
--- the line that starts at `at` ends at `end`, and the lines after it start at the byte after that
-pub record Ends (input : List ℕ) (at end : ℕ) : Type 0 where
-  pub from : at ≤ end
-  pub within : end ≤ length input
-  pub line_is : lines (drop at input) ≡ take (end - at) (drop at input) ∷ lines (drop (end + 1) input)
+-- the first line of some bytes, and the bytes after it
+pub record Parts (input line rest : List ℕ) : Type 0 where
+  pub lines_are : lines input ≡ line ∷ lines rest
+  pub shorter : length rest < length input
 
--- a card for the device of a line, as new makes it, or −12 where the line says none
-abbrev pub Opens : Option Device → List ℕ → ℤ → List ℕ → Type 0
-Opens none r a r' = a ≡ line_answer {A = Device} none
-Opens (some d) r a r' = Changes (new r d.rows d.kinds) a r'
+-- MODEL 18.6: the card is that of the device of a line, as new makes it
+pub record Opened (o : ModelOption Device) (card : List ℕ) : Type 0 where
+  pub device : Device
+  pub device_is : o ≡ some device
+  pub ok : device_ok device ≡ true
+  pub card_is : card ≡ record_of device []
 
--- what the program prints on an empty card of device d, from the fourth line on or with a fault in lines 1 to 3
-abbrev pub rest_of : Begun → Device → List ℕ → List ℕ
-rest_of (Ready at) d input = on_lines 4 (record { device = d; book = []; draft = [] }) (lines (drop at input))
-rest_of (Fault line answer) d input = says line answer
+-- MODEL 18.5 and 18.6: the line says no device, or new refuses it: the program prints this and ends, whatever lines follow
+abbrev pub Refuses : ModelOption Device → Fault → Type 0
+Refuses o f = (ls : List (List ℕ)) → with_device o ls ≡ shown_fault f
 
--- the card where there is one: that of a device that new accepts, with no task
-abbrev pub Opened : Begun → Device → List ℕ → Type 0
-Opened (Ready at) d card = (card ≡ record_of d []) × (device_ok d ≡ true)
-Opened (Fault line answer) d card = Unit {0}
+-- the output is what the lines of `rest` print, from the fourth on, on an empty card of device d
+abbrev pub GoesOn : Device → List ℕ → List ℕ → Type 0
+GoesOn d output rest = output ≡ on_lines 4 (record { device = d; book = []; draft = [] }) (lines rest)
 
--- what the first lines lead to: the output of all lines is what is printed from there on
-abbrev pub Begins : Begun → List ℕ → List ℕ → List ℕ → Type 0
-Begins b input card output = (d : Device) × Opened b d card × (output ≡ rest_of b d input)
+-- the card is that of a device that new accepts, with no task, and so the output goes on
+pub record Begun (card output rest : List ℕ) : Type 0 where
+  pub device : Device
+  pub ok : device_ok device ≡ true
+  pub card_is : card ≡ record_of device []
+  pub output_is : GoesOn device output rest
+
+-- what the lines of `input` lead to: the output goes on behind some of them, or is that of a fault
+abbrev pub Leads : List ℕ → List ℕ → List ℕ → Result (Bor (List ℕ)) Fault → Type 0
+Leads input card output x = MatchResult x (λ r. Begun card output r.now × (length r.now ≤ length input)) (λ f. output ≡ shown_fault f)

@@ -1,7 +1,7 @@
 -- What is proved of the definitions.
 pub mod Card
+pub mod Refusals
 pub mod Input
-pub mod Shows
 pub mod Listing
 pub mod Lines
 pub mod Program

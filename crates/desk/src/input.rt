@@ -1,92 +1,85 @@
 // The input: where its lines end, and its first three lines.
-ghost use Rattle.std.specs.Prelude.{◌≡◌, ◌<◌, length, drop, negsuc};
-ghost use Rattle.model.specs.Limits.{record_size};
-ghost use Rattle.model.specs.Sheet.{device_line};
+ghost use Rattle.std.specs.Prelude.{◌≡◌, ◌≤◌, ◌++◌, length, MatchOption, MatchResult};
+ghost use Rattle.model.specs.Limits.{record_size, max_sheet};
 ghost use Rattle.model.specs.Columns.{Device};
-ghost use Rattle.model.specs.Program.{first, second, third, lines};
-ghost use Rattle.desk.specs.Input.{Ends, Opens, rest_of, Begins};
+ghost use Rattle.model.specs.Sheet.{device_line};
+ghost use Rattle.model.specs.Program.{first, second, third, lines, program};
+ghost use Rattle.line.specs.Print.{names_line};
+ghost use Rattle.desk.specs.Fault.{shown_fault};
+ghost use Rattle.desk.specs.Input.{Parts, Opened, Refuses, GoesOn, Begun, Leads};
 
-use crate::MALFORMED_LINE;
+use crate::MAX_SHEET;
+use crate::fault::Fault;
 
-// What the first three lines lead to: where the fourth starts, or the line that ends the program and its refusal.
-#[derive(Drop)]
-pub enum Begun {
-    Ready(usize),
-    Fault { line: u32, answer: i32 },
-}
-
-// Where the line that starts at `at` ends: its newline, or the end of the input.
-pub fn line_end(input: &[u8], at: usize) -> usize
-    requires { at < length input.now }
-    ensures { Ends input.now at result }
+// MODEL 17.1: the first line of some bytes, without its newline, and the bytes after it; nothing where there are no bytes.
+pub fn next_line(input: &[u8]) -> Option<(&[u8], &[u8])>
+    ensures { MatchOption result (length input.now ≡ 0) (λ p. Parts input.now p.0.now p.1.now) }
 {
-    line::fields::end_before(input, at, b'\n')
-}
-
-// The card of the second line: what new answers, or that the line is malformed.
-fn new_card(line: &[u8], card: &mut [u8]) -> i32
-    ensures { Opens (device_line line.now) card.old result card.new }
-{
-    let Some(device) = line::device::device_line(line) else {
-        return MALFORMED_LINE;
-    };
-    card::card_new(card, device.rows, device.kinds.as_slice())
-}
-
-// A malformed or missing line.
-fn malformed(line: u32) -> Begun
-    ensures { result ≡ Begun.Fault line (negsuc 11) }
-{
-    Begun::Fault {
-        line: line,
-        answer: MALFORMED_LINE,
+    if input.is_empty() {
+        return None;
     }
+    let end = line::fields::end_before(input, 0, b'\n');
+    let next = input.len().min(end + 1);
+    Some((&input[..end], &input[next..]))
 }
 
-// The third line, which starts at `at`.
-fn third(input: &[u8], at: usize) -> Begun
-    ensures { (d : Device) → third d (lines (drop at input.now)) ≡ rest_of result d input.now }
+// The line of a number, and the bytes after it.
+fn line(input: &[u8], number: u32) -> Result<(&[u8], &[u8]), Fault>
+    ensures { MatchResult result (λ p. Parts input.now p.0.now p.1.now) (λ f. (f ≡ Fault.Malformed number) × (length input.now ≡ 0)) }
 {
-    if input.len() <= at {
-        return malformed(3);
-    }
-    let end = line_end(input, at);
-    if !line::device::is_second_names(&input[at..end]) {
-        return malformed(3);
-    }
-    Begun::Ready(end + 1)
+    next_line(input).ok_or(Fault::Malformed(number))
 }
 
-// The second line, which starts at `at`, and the third.
-fn second(input: &[u8], at: usize, card: &mut [u8]) -> Begun
+// The card of the second line: new judges its device.
+fn new_card(line: &[u8], card: &mut [u8]) -> Result<(), Fault>
     requires { length card.old ≡ record_size }
-    ensures { Begins result input.now card.new (second (lines (drop at input.now))) }
+    ensures { MatchResult result (λ _. Opened (device_line line.now) card.new) (Refuses (device_line line.now)) }
 {
-    if input.len() <= at {
-        return malformed(2);
-    }
-    let end = line_end(input, at);
-    let answer = new_card(&input[at..end], card);
-    if answer < 0 {
-        return Begun::Fault {
-            line: 2,
-            answer: answer,
-        };
-    }
-    third(input, end + 1)
+    let device = line::device::device_line(line).ok_or(Fault::Malformed(2))?;
+    card::new(card, device.rows, device.kinds.as_slice())?;
+    Ok(())
 }
 
-// The first line, and the second and the third. The card is that of the second line.
-pub fn first(input: &[u8], card: &mut [u8]) -> Begun
-    requires { length card.old ≡ record_size }
-    ensures { Begins result input.now card.new (first (lines input.now)) }
+// The third line. The answer is the input after it.
+fn third(input: &[u8]) -> Result<&[u8], Fault>
+    ensures { MatchResult result (λ r. ((d : Device) → GoesOn d (third d (lines input.now)) r.now) × (length r.now ≤ length input.now)) (λ f. (d : Device) → third d (lines input.now) ≡ shown_fault f) }
 {
-    if input.len() == 0 {
-        return malformed(1);
+    let (names, rest) = line(input, 3)?;
+    if !line::device::is_second_names(names) {
+        return Err(Fault::Malformed(3));
     }
-    let end = line_end(input, 0);
-    if !line::device::is_first_names(&input[0..end]) {
-        return malformed(1);
+    Ok(rest)
+}
+
+// The second line, and the third. The card is that of the second line.
+fn second<'a>(input: &'a [u8], card: &mut [u8]) -> Result<&'a [u8], Fault>
+    requires { length card.old ≡ record_size }
+    ensures { Leads input.now card.new (second (lines input.now)) result }
+{
+    let (device, rest) = line(input, 2)?;
+    new_card(device, card)?;
+    third(rest)
+}
+
+// The first line, and the second and the third.
+fn first<'a>(input: &'a [u8], card: &mut [u8]) -> Result<&'a [u8], Fault>
+    requires { length card.old ≡ record_size }
+    ensures { Leads input.now card.new (first (lines input.now)) result }
+{
+    let (names, rest) = line(input, 1)?;
+    if !line::device::is_first_names(names) {
+        return Err(Fault::Malformed(1));
     }
-    second(input, end + 1, card)
+    second(rest, card)
+}
+
+// MODEL 18.2: the first three lines of an input that is not too long.
+pub fn begin<'a>(input: &'a [u8], card: &mut [u8]) -> Result<&'a [u8], Fault>
+    requires { length card.old ≡ record_size }
+    ensures { MatchResult result (λ r. Begun card.new (first (lines input.now)) r.now × (length r.now ≤ length input.now) × (length input.now ≤ max_sheet)) (λ f. program input.now ≡ names_line ++ shown_fault f) }
+{
+    if MAX_SHEET < input.len() {
+        return Err(Fault::Malformed(0));
+    }
+    first(input, card)
 }

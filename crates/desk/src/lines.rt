@@ -1,61 +1,82 @@
 // A line from the fourth on.
-ghost use Rattle.std.specs.Prelude.{take};
+ghost use Rattle.std.specs.Prelude.{◌≡◌, []};
+ghost use Rattle.model.specs.Calls.{choose, place, release};
+ghost use Rattle.model.specs.OnRecord.{on_record};
 ghost use Rattle.model.specs.Program.{on_call, on_line};
+ghost use Rattle.card.specs.Leaves.{Changes};
 ghost use Rattle.line.specs.Calls.{call_said};
-ghost use Rattle.desk.specs.Desk.{desk_of, Ready, Leaves};
+ghost use Rattle.desk.specs.Desk.{desk_of, Leaves};
 
-use crate::blocks::{Left, leave};
-use crate::{MALFORMED_LINE, blocks, calls, output, ranges};
+use crate::fault::Fault;
+use crate::output::{say, say_fault};
+use crate::{Desk, Output};
 use line::call::Call;
 
-// What a call does, with the draft's first `used` bytes. What is printed stands in `out`, from its first byte on.
-fn on_call(
-    card: &mut [u8],
-    draft: &mut [u8],
-    used: usize,
-    number: u32,
-    call: Call,
-    listing: &mut [u8],
-    out: &mut [u8],
-) -> Left
-    requires { Ready card.old draft.old used listing.old out.old }
-    ensures { Leaves (on_call number (desk_of card.old (take used draft.old)) (call_said call)) card.new draft.new result.used out.new result.printed }
-{
-    match call {
-        Call::Block(block) => blocks::add_block(draft, used, number, block, out),
-        Call::Empty => leave(0, 0),
-        Call::List => leave(
-            used,
-            ranges::list(card, &draft[..used], number, listing, out),
-        ),
-        Call::Choose => leave(used, calls::choose(card, &draft[..used], number, out)),
-        Call::Place {
-            task,
-            column,
-            bottom,
-        } => {
-            let printed = calls::place(card, &draft[..used], number, task, column, bottom, out);
-            leave(used, printed)
-        }
-        Call::Release { task } => leave(used, calls::release(card, number, task, out)),
+impl Desk {
+    // C: the best position of the draft.
+    fn choose(&self) -> i32
+        ensures { Changes (on_record self.now.card (choose self.now.draft.bytes.items)) result self.now.card }
+    {
+        let draft = &self.draft;
+        card::answer(card::choose(&self.card, draft.bytes.as_slice()))
     }
-}
 
-// One line, without its newline: the line number and the draft's first `used` bytes are what it finds.
-pub fn on_line(
-    card: &mut [u8],
-    draft: &mut [u8],
-    used: usize,
-    number: u32,
-    line: &[u8],
-    listing: &mut [u8],
-    out: &mut [u8],
-) -> Left
-    requires { Ready card.old draft.old used listing.old out.old }
-    ensures { Leaves (on_line number (desk_of card.old (take used draft.old)) line.now) card.new draft.new result.used out.new result.printed }
-{
-    let Some(call) = line::call::read(line) else {
-        return leave(used, output::say(out, number, MALFORMED_LINE));
-    };
-    on_call(card, draft, used, number, call, listing, out)
+    // P: the draft is placed.
+    fn place(&mut self, task: u16, column: u8, bottom: i16) -> i32
+        ensures answers { Changes (on_record self.old.card (place self.old.draft.bytes.items task column bottom)) result self.new.card }
+        ensures same_draft { self.new.draft.bytes.items ≡ self.old.draft.bytes.items }
+    {
+        let draft = &self.draft;
+        let placed = card::place(
+            &mut self.card,
+            draft.bytes.as_slice(),
+            u32::from(task),
+            u32::from(column),
+            i32::from(bottom),
+        );
+        card::answer(placed.map(|()| 0))
+    }
+
+    // R: a task is released.
+    fn release(&mut self, task: u16) -> i32
+        ensures answers { Changes (on_record self.old.card (release task)) result self.new.card }
+        ensures same_draft { self.new.draft.bytes.items ≡ self.old.draft.bytes.items }
+    {
+        let released = card::release(&mut self.card, u32::from(task));
+        card::answer(released.map(|()| 0))
+    }
+
+    // What a call does to the desk, and prints.
+    fn on_call(&mut self, number: u32, call: Call, out: &mut Output)
+        requires { out.old.bytes ≡ [] }
+        ensures { Leaves (on_call number (desk_of self.old.card self.old.draft.bytes.items) (call_said call)) self.new.card self.new.draft.bytes.items out.new.bytes }
+    {
+        match call {
+            Call::Block(block) => {
+                if let Err(refusal) = self.draft.add(block) {
+                    say(out, number, i32::from(refusal));
+                }
+            }
+            Call::Empty => self.draft.bytes.clear(),
+            Call::List => self.list(number, out),
+            Call::Choose => say(out, number, self.choose()),
+            Call::Place {
+                task,
+                column,
+                bottom,
+            } => say(out, number, self.place(task, column, bottom)),
+            Call::Release { task } => say(out, number, self.release(task)),
+        }
+    }
+
+    // One line, without its newline.
+    pub(crate) fn on_line(&mut self, number: u32, line: &[u8], out: &mut Output)
+        ensures { Leaves (on_line number (desk_of self.old.card self.old.draft.bytes.items) line.now) self.new.card self.new.draft.bytes.items out.new.bytes }
+    {
+        out.clear();
+        match line::call::read(line) {
+            Some(call) => self.on_call(number, call, out),
+            None => say_fault(out, Fault::Malformed(number)),
+        }
+    }
 }

@@ -1,13 +1,35 @@
-// What is printed without a range: a line that has only an answer, from the first byte of `out` on.
-ghost use Rattle.std.specs.Prelude.{◌≤◌, length};
+// What is printed without a range: a line that has only an answer.
+ghost use Rattle.std.specs.Prelude.{◌≡◌, ◌+◌, ◌≤◌, ◌++◌};
 ghost use Rattle.model.specs.Program.{says};
+ghost use Rattle.arrayvec.specs.ArrayString.{array_string_len};
 ghost use Rattle.line.specs.Print.{line_room};
-ghost use Rattle.desk.specs.Desk.{Shows};
+ghost use Rattle.desk.specs.Desk.{output_room};
+ghost use Rattle.desk.specs.Fault.{shown_fault};
+
+use crate::Output;
+use crate::fault::Fault;
+use line::print::OutputLine;
 
 // A line that has an answer and no range.
-pub fn say(out: &mut [u8], number: u32, answer: i32) -> usize
-    requires { line_room ≤ length out.old }
-    ensures { Shows out.new result (says number answer) }
+pub fn say(out: &mut Output, number: u32, answer: i32)
+    requires { array_string_len out.old + line_room ≤ output_room }
+    ensures { out.new.bytes ≡ out.old.bytes ++ says number answer }
 {
-    line::print::print_line(out, 0, number, answer, 0, 0, 0, 0)
+    let line = OutputLine {
+        line: number,
+        answer,
+        column: 0,
+        first: 0,
+        step: 0,
+        last: 0,
+    };
+    out.push_str(line.text().as_str());
+}
+
+// A line that is at fault.
+pub fn say_fault(out: &mut Output, fault: Fault)
+    requires { array_string_len out.old + line_room ≤ output_room }
+    ensures { out.new.bytes ≡ out.old.bytes ++ shown_fault fault }
+{
+    say(out, fault.line(), i32::from(fault));
 }

@@ -1,56 +1,51 @@
 // L: a line of output for each range of the draft.
-ghost use Rattle.std.specs.Prelude.{◌+◌, ◌*◌, ◌≤◌, length};
+ghost use Rattle.std.specs.Prelude.{◌≡◌, [], pos, ◌+◌, ◌*◌, ◌≤◌, ◌++◌, length};
 ghost use Rattle.model.specs.Limits.{range_size};
 ghost use Rattle.model.specs.Calls.{ranges_in};
 ghost use Rattle.model.specs.Sheet.{list_draft};
 ghost use Rattle.model.specs.Program.{shows, on_call};
-ghost use Rattle.line.specs.Print.{Printed, line_room};
-ghost use Rattle.desk.specs.Desk.{desk_of, Shows, Card, Room, range_at, range_line};
+ghost use Rattle.arrayvec.specs.ArrayString.{array_string_len};
+ghost use Rattle.line.specs.Print.{line_room};
+ghost use Rattle.desk.specs.Desk.{output_room, desk_of, range_at, range_line};
 
-use crate::output;
+use crate::output::say;
+use crate::{Desk, Output};
+use line::print::OutputLine;
+use model::{RANGE_FIRST_AT, RANGE_LAST_AT, RANGE_SIZE, RANGE_STEP_AT};
+use words::get16;
 
-// The line of output of range i, printed from byte `at` on.
-fn print_range(
-    listing: &[u8],
-    i: usize,
-    number: u32,
-    answer: i32,
-    out: &mut [u8],
-    at: usize,
-) -> usize
-    requires { (range_size * i + range_size ≤ length listing.now) × (at + line_room ≤ length out.old) }
-    ensures { (result ≤ at + line_room) × Printed out.old out.new at result (range_line number answer (range_at listing.now i)) }
+// The lines of output of the first `count` ranges of a listing.
+fn print_ranges(listing: &[u8], count: u16, number: u32, out: &mut Output)
+    requires listed { range_size * count ≤ length listing.now }
+    requires room { array_string_len out.old + line_room * count ≤ output_room }
+    ensures { out.new.bytes ≡ out.old.bytes ++ shows number (pos count) (ranges_in count listing.now) }
 {
-    let start = model::RANGE_SIZE * i;
-    let column = words::wide(listing[start]);
-    let step = words::wide(listing[start + model::RANGE_STEP_AT]);
-    let first = words::get16(listing, start + model::RANGE_FIRST_AT);
-    let last = words::get16(listing, start + model::RANGE_LAST_AT);
-    line::print::print_line(out, at, number, answer, column, first, step, last)
+    for i in 0..usize::from(count) {
+        let start = RANGE_SIZE * i;
+        let line = OutputLine {
+            line: number,
+            answer: i32::from(count),
+            column: u32::from(listing[start]),
+            first: get16(listing, start + RANGE_FIRST_AT),
+            step: u32::from(listing[start + RANGE_STEP_AT]),
+            last: get16(listing, start + RANGE_LAST_AT),
+        };
+        out.push_str(line.text().as_str());
+    }
 }
 
-// The lines of output of the first `count` ranges.
-fn print_ranges(listing: &[u8], count: usize, number: u32, answer: i32, out: &mut [u8]) -> usize
-    requires { (range_size * count ≤ length listing.now) × (line_room * count ≤ length out.old) }
-    ensures { Shows out.new result (shows number answer (ranges_in count listing.now)) }
-{
-    let mut at = 0;
-    let mut i = 0;
-    while i < count {
-        at = print_range(listing, i, number, answer, out, at);
-        i += 1;
+impl Desk {
+    // The draft's ranges, or the refusal.
+    pub(crate) fn list(&mut self, number: u32, out: &mut Output)
+        requires { out.old.bytes ≡ [] }
+        ensures same_card { self.new.card ≡ self.old.card }
+        ensures same_draft { self.new.draft.bytes.items ≡ self.old.draft.bytes.items }
+        ensures shows { out.new.bytes ≡ (on_call number (desk_of self.old.card self.old.draft.bytes.items) list_draft).printed }
+    {
+        let draft = &self.draft;
+        match card::list(&self.card, draft.bytes.as_slice(), &mut self.listing) {
+            Ok(count) => print_ranges(&self.listing, count, number, out),
+            Err(refusal) => say(out, number, i32::from(refusal)),
+        }
     }
-    at
-}
-
-// The draft's ranges, or the refusal.
-pub fn list(card: &[u8], draft: &[u8], number: u32, listing: &mut [u8], out: &mut [u8]) -> usize
-    requires { Card card.now × Room listing.old out.old }
-    ensures { Shows out.new result (on_call number (desk_of card.now draft.now) list_draft).printed }
-{
-    let answer = card::card_list(card, draft, listing);
-    if answer < 0 {
-        return output::say(out, number, answer);
-    }
-    print_ranges(listing, answer as usize, number, answer, out)
 }

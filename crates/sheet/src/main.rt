@@ -4,6 +4,7 @@
 
 ghost use Rattle.std.specs.Prelude.{length, ◌≤◌, IfOk};
 
+use desk::Output;
 use std::io;
 use std::io::{Eprint, Print, Read};
 
@@ -15,6 +16,7 @@ fn read_some<R: Read>(from: &mut R, room: &mut [u8]) -> io::Result<usize>
 }
 
 // Reads until the input ends or the room is full. A read that fails is an error: an input that is cut short is not the input.
+// The count is by hand, as std's `read_to_end` wants a Vec, and the sheet has fixed memory.
 fn read<R: Read>(from: &mut R, input: &mut [u8]) -> io::Result<usize>
     ensures { IfOk result (λ n. n ≤ length input.new) }
 {
@@ -29,24 +31,23 @@ fn read<R: Read>(from: &mut R, input: &mut [u8]) -> io::Result<usize>
     Ok(n)
 }
 
-// Writes the first n bytes, all of them or with an error.
-fn write<P: Print>(to: &P, out: &[u8], n: usize) -> io::Result<()>
-    requires { n ≤ length out.now }
-{
-    to.write_all(&out[..n])
+// Writes what was printed, all of it or with an error.
+fn write<P: Print>(to: &P, out: &Output) -> io::Result<()> {
+    to.write_all(out.as_str().as_bytes())
 }
 
 // The program on an input: its start, and its turns. It ends where what they printed could not be written.
 fn run<P: Print>(to: &P, input: &[u8]) -> io::Result<()> {
-    let mut card = [0u8; model::RECORD_SIZE];
-    let mut draft = [0u8; desk::DRAFT_ROOM];
-    let mut listing = [0u8; model::LIST_ROOM];
-    let mut out = [0u8; desk::OUTPUT_ROOM];
-    let mut stand = desk::program::start(input, &mut card, &mut out);
-    write(to, &out, stand.printed)?;
-    while stand.more {
-        stand = desk::program::turn(input, stand, &mut card, &mut draft, &mut listing, &mut out);
-        write(to, &out, stand.printed)?;
+    let mut out = Output::new();
+    let begun = desk::program::start(input, &mut out);
+    write(to, &out)?;
+    let Some((mut desk, first)) = begun else {
+        return Ok(());
+    };
+    let mut stand = Some(first);
+    while let Some(at) = stand {
+        stand = desk.turn(at, &mut out);
+        write(to, &out)?;
     }
     Ok(())
 }

@@ -2,7 +2,7 @@
 use Rattle.std.specs.Prelude.{ℕ, ◌*◌, ◌≤◌, ◌<◌, ◌≡◌, refl, List, [], ℤ, Option, Some, length}
 use Rattle.std.proofs.Math.Path.{sym}
 use Rattle.std.proofs.Common.{◌∙◌, arith}
-use Rattle.std.proofs.Math.Option.{Option as maybe, none, some}
+use Rattle.std.proofs.Math.Option.{Option as ModelOption, none, some}
 use borrow.Author.Tests.{lt-ltb}
 use Rattle.model.specs.Limits.{max_rows, max_columns, max_intervals, list_room}
 use Rattle.model.specs.Columns.{Device}
@@ -54,7 +54,7 @@ no_output : (d : Device) (b : Book) (t : List ℕ) → [] ≡ (on_book d b (choo
 unfolding on_book unless lent done
 no_output d b t = go (refused (refusals d b (choose t)))
   where
-    go : (o : maybe ℕ) → [] ≡ (unless o [] b (done d b (choose t))).output
+    go : (o : ModelOption ℕ) → [] ≡ (unless o [] b (done d b (choose t))).output
     go none = refl
     go (some n) = refl
 

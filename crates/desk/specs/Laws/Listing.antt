@@ -1,11 +1,9 @@
 -- A listing printed: its ranges read back from the bytes, and its answer. Assumes nothing.
-use Rattle.std.specs.Prelude.{ℕ, zero, suc, ◌+◌, ◌*◌, ◌≤◌, refl, ◌⊎◌, Bool, true, false, not, ltb, ℤ, pos, negsuc, nat_abs, length, drop, replicate}
+use Rattle.std.specs.Prelude.{ℕ, zero, suc, ◌+◌, ◌*◌, ◌≤◌, refl, ◌⊎◌, Bool, true, false, not, ltb, ℤ, pos, negsuc, length, drop, replicate}
 use Rattle.std.proofs.Math.Path.{◌≡◌, ap}
 use Rattle.std.proofs.Common.{sym, ◌∙◌, inl, inr, add-one, arith, length-append, get_or-drop}
 use Rattle.std.proofs.Math.Option.{Option, none, some}
 use mathlib.Core.List.{List, [], ◌∷◌, ◌++◌, append-nil}
-use Rattle.std.proofs.Math.Dec.{leb-suc-zero}
-use Rattle.std.specs.Int.Signed.{lt_z}
 use Rattle.std.proofs.lemmas.List.{length-replicate}
 use Rattle.model.specs.Limits.{range_size, list_room}
 use Rattle.model.specs.Bounded.{join_in}
@@ -20,8 +18,11 @@ use Rattle.model.specs.Sheet.{list_draft}
 use Rattle.model.specs.Program.{says, shows, listed, on_call}
 use Rattle.model.proofs.Laws.Listing.{join_append}
 use Rattle.model.proofs.Laws.RangeBytes.{read_ranges}
+use Rattle.card.specs.declared.refusal.Refusal.{Refusal}
+use Rattle.card.specs.Refusals.{number_of}
 use Rattle.desk.specs.Desk.{desk_of, Card, range_at, range_line}
 use Rattle.desk.specs.Laws.Card.{on_card}
+use Rattle.desk.specs.Laws.Refusals.{refused_below}
 
 -- ---- one range more
 
@@ -49,6 +50,11 @@ shows_more number a n o =
   where
     one : (l : List ℕ) → l ++ [] ≡ l
     one l = simp append-nil
+
+-- no range
+pub shows_none : (number : ℕ) (a : ℤ) (o out : List ℕ) → out ≡ out ++ shows number a (ranges_in 0 o)
+unfolding ranges_in join_in
+shows_none number a o out = sym (append-nil out)
 
 -- ---- the listing of a card
 
@@ -91,16 +97,18 @@ module _ (r t o : List ℕ) (k : Card r) (l : length o ≡ list_room) (number : 
       ap (λ (a : ℤ). (listed number (desk_of r t) a).printed) (e ∙ ap (λ (x : Outcome (List ℕ)). x.answer) (on_card r k (list t o)) ∙ same_answer (device_of r) (book_of r) t o (replicate list_room 0) l (length-replicate {A = ℕ} list_room 0))
 
   -- a refusal is printed as one
-  pub list_refused : (z : ℤ) → z ≡ (on_record r (list t o)).answer → lt_z z (pos 0) ≡ true → says number z ≡ (on_call number (desk_of r t) list_draft).printed
-  list_refused (pos n) e h = absurd (let q : ◌≡◌ {A = ℕ} 0 1 = cc (leb-suc-zero n) in omega arith)
-  list_refused (negsuc n) e h = listed_as (negsuc n) e
+  pub list_refused : (e : Refusal) → number_of e ≡ (on_record r (list t o)).answer → says number (number_of e) ≡ (on_call number (desk_of r t) list_draft).printed
+  list_refused e h = go (number_of e) (refused_below e) h
+    where
+      go : (z : ℤ) → ((n : ℕ) → z ≡ pos n → ⊥) → z ≡ (on_record r (list t o)).answer → says number z ≡ (on_call number (desk_of r t) list_draft).printed
+      go (pos n) q h = absurd (q n refl)
+      go (negsuc n) q h = listed_as (negsuc n) h
 
   -- otherwise the bytes have as many ranges as were answered, and they are the task's
-  pub list_done : (z : ℤ) (o' : List ℕ) → z ≡ (on_record r (list t o)).answer → o' ≡ (on_record r (list t o)).output → lt_z z (pos 0) ≡ false
-      → (range_size * nat_abs z ≤ length o') × (shows number z (ranges_in (nat_abs z) o') ≡ (on_call number (desk_of r t) list_draft).printed)
+  pub list_done : (n : ℕ) (o' : List ℕ) → pos n ≡ (on_record r (list t o)).answer → o' ≡ (on_record r (list t o)).output
+      → (range_size * n ≤ length o') × (shows number (pos n) (ranges_in n o') ≡ (on_call number (desk_of r t) list_draft).printed)
   unfolding written over
-  list_done (negsuc n) o' e q h = absurd (let q : ◌≡◌ {A = ℕ} 0 1 = cc in omega arith)
-  list_done (pos n) o' e q h = go (cases (device_of r) (book_of r) t o)
+  list_done n o' e q = go (cases (device_of r) (book_of r) t o)
     where
       L : List Range
       L = ranges (device_of r) (book_of r) t

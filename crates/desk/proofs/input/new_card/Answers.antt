@@ -1,15 +1,22 @@
--- `desk::input::new_card` meets its contract: the line's rows and kinds, handed to new. Assumes nothing.
-use Rattle.std.proofs.Common.{rules}
-use mir.Syntax.{w32}
-use Rattle.signed.proofs.Signed.{read}
-use Rattle.model.specs.Sheet.{device_line}
-use Rattle.desk.specs.Laws.Input.{opens_none, opens_some}
+-- `new_card`: a malformed line, or its device, handed to new. Assumes nothing.
+use Rattle.std.proofs.Common.{◌≡◌}
+use Rattle.std.proofs.lemmas.Result.{err_from_is_err_and}
+use Rattle.desk.specs.declared.fault.Fault.TheVariants.{Malformed}
+use Rattle.desk.specs.Laws.Input.{refuses_none, opened}
 use Rattle.desk.proofs.input.new_card.Goals as goal
 
-pub returns-in_default : goal.returns-in_default
-returns-in_default c =
-    opens_none (device_line c.args.line.now) c.args.card.now c.in_default.ensures
+pub returns-in_err-device : goal.returns-in_err-device
+returns-in_err-device c =
+    let e = c.in_err-device.ensures in
+    let p = err_from_is_err_and c.from_residual.result c.from_residual.ensures.1 in
+    let f : c.in_err-device.field-0.0 ≡ Malformed 2 = cc (rw e.ok_part at e.value) in
+    rw (p.1, p.2, f) (refuses_none _ (rw e.ok_part at c.device_line.ensures))
+
+pub returns-in_err-new : goal.returns-in_err-new
+returns-in_err-new c =
+    let x = c.from_residual-in_err-new in
+    let p = err_from_is_err_and x.result x.ensures.1 in
+    rw (p.1, p.2) (rw c.in_err-new.was at (opened _ c.requires _ c.in_ok-device.device (rw c.in_ok-device.ensures.ok_part at c.device_line.ensures) c.new.result (rw c.as_slice.ensures.value at c.new.ensures)))
 
 pub returns : goal.returns
-returns c =
-    rw (read w32 {z = c.card_new.result} (search rules)) (opens_some (device_line c.args.line.now) c.args.card.now c.in-Some.ensures (rw c.as_slice.ensures.value at c.card_new.ensures))
+returns c = rw c.in_ok-new.was at (opened _ c.requires _ c.in_ok-device.device (rw c.in_ok-device.ensures.ok_part at c.device_line.ensures) c.new.result (rw c.as_slice.ensures.value at c.new.ensures))

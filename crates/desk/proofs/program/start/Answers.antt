@@ -1,31 +1,17 @@
--- `desk::program::start` meets its contract: an input that is too long, a fault in its first three lines, or its fourth line. Assumes nothing.
-use Rattle.std.proofs.Common.{rules}
-use mathlib.Core.Path.{ap, ◌∙◌}
-use mathlib.Core.List.{List, ◌++◌}
-use Prim.Native.Nat.{ℕ, ◌≤◌}
-use lib.IntN.{negsuc}
-use lib.ListN.{length}
-use mir.Syntax.{w32}
-use Rattle.signed.proofs.Signed.{read}
-use Rattle.line.specs.Print.{names_line}
-use Rattle.desk.specs.Laws.Program.{program_long, program_short, starts_fault, starts_ready}
+-- `start`: a fault in the first three lines, or the line after them, if there is one. Assumes nothing.
+use Rattle.desk.specs.Laws.Card.{card_begun}
+use Rattle.desk.specs.Laws.Program.{starts_none, starts_some}
 use Rattle.desk.proofs.program.start.Goals as goal
 
-pub returns-then-input-gt-MAX_SHEET : goal.returns-then-input-gt-MAX_SHEET
-returns-then-input-gt-MAX_SHEET c =
-    let n = c.print_names-printed in
-    let room : n.result ≤ length c.args.out.now = search rules in
-    starts_fault _ c.args.card.now _ _ _ n.ensures room 0 (negsuc 11) _ _ c.fault.ensures (program_long _ c.if-input-gt-MAX_SHEET.true)
+pub returns-in_err-stand-in-Ok : goal.returns-in_err-stand-in-Ok
+returns-in_err-stand-in-Ok c =
+    let x = c.in-Ok.ensures in
+    rw c.from_residual.ensures (starts_none _ _ _ _ x.0 x.2 (rw (c.push_str.ensures.bytes, c.clear.ensures) c.names.ensures) c.in_err-stand-in-Ok.ensures)
 
-pub returns-in-Fault : goal.returns-in-Fault
-returns-in-Fault c =
-    let n = c.print_names-printed in
-    let room : n.result ≤ length c.args.out.now = search rules in
-    let (d, u, e) = c.in-Fault.ensures in
-    starts_fault _ _ _ _ _ n.ensures room _ _ _ _ (rw (read w32 {z = c.in-Fault.answer} (search rules)) at c.fault-in-Fault.ensures) (program_short _ c.if-input-gt-MAX_SHEET.false ∙ ap (λ (x : List ℕ). names_line ++ x) e)
+pub invariant_of-desk : goal.invariant_of-desk
+invariant_of-desk c = record { is_card = card_begun c.in-Ok.ensures.0 }
 
-pub returns-in-Ready : goal.returns-in-Ready
-returns-in-Ready c =
-    let n = c.print_names-printed in
-    let room : n.result ≤ length c.args.out.now = search rules in
-    starts_ready _ _ _ _ _ n.ensures room _ c.if-input-gt-MAX_SHEET.false c.in-Ready.ensures
+pub returns-in_ok-stand-in-Ok : goal.returns-in_ok-stand-in-Ok
+returns-in_ok-stand-in-Ok c =
+    let x = c.in-Ok.ensures in
+    rw c.new.ensures (starts_some _ _ _ _ x.0 x.2 (rw (c.push_str.ensures.bytes, c.clear.ensures) c.names.ensures) c.in_ok-stand-in-Ok.stand c.in_ok-stand-in-Ok.ensures)
