@@ -57,14 +57,6 @@ free_below ws n k = ltb k n && is_free ws k
 unfoldable pub bit_intervals : List ℕ → ℕ → ℕ → List Interval
 bit_intervals ws n h = map (scaled h) (maximal_runs (is_free ws) n)
 
--- what a column's cells must be, that its part can be written: p has its size, the words hold the n cells, and the ends are two-byte numbers
-pub record ColumnBits (ws : List ℕ) (n h : ℕ) (p : List ℕ) : Type 0 where
-  pub size : length p ≡ column_size
-  pub few : n ≤ 2 * max_intervals
-  pub room : n ≤ word_bits * length ws
-  pub short : length ws ≤ most_words
-  pub small : h * n < words
-
 -- ---- writing the part
 
 -- the two-byte numbers L

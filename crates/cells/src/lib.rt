@@ -2,86 +2,74 @@
 #![tactic(auto)]
 
 ghost use Rattle.std.specs.Prelude.{◌≡◌, Bool, cond, [], ℕ, ◌+◌, ◌-◌, ◌*◌, ◌≤◌, ◌<◌, length, ltb};
+ghost use Rattle.model.specs.Limits.{max_intervals, words as two_bytes};
 ghost use Rattle.model.specs.Bounded.{sum_below};
 ghost use Rattle.model.specs.Record.{column_part};
 ghost use Rattle.cells.specs.Bits.{most_words, word_bits, is_set, cell_bit, between, Shows, RunIn, Marked};
-ghost use Rattle.cells.specs.Ends.{one_below, change, spots, free_below, bit_intervals, ColumnBits, Writable, EndsWritten, PartIs};
+ghost use Rattle.cells.specs.Ends.{one_below, change, spots, free_below, bit_intervals, Writable, EndsWritten, PartIs};
 
+use std::ops::Range;
 use words::put16;
 
-// The bits of a word.
-const BITS: u32 = 64;
-
-// How far x is above y, or 0.
-fn above(x: u32, y: u32) -> u32
-    ensures { result ≡ x - y }
-{
-    if x < y { 0 } else { x - y }
+// A column's cells: their bits, how many they are, and their height in half rows. The ends of its free intervals are numbers of two bytes.
+#[derive(Clone, Copy)]
+pub struct ColumnBits<'a> {
+    pub words: &'a [u64],
+    pub cells: u32,
+    pub height: u32,
+    ghost few: { cells ≤ 2 * max_intervals },
+    ghost room: { cells ≤ word_bits * length words.now },
+    ghost short: { length words.now ≤ most_words },
+    ghost small: { height * cells < two_bytes },
 }
 
 // The lowest n bits.
 fn low(n: u32) -> u64
     ensures { Shows result (λ k. ltb k n) 0 }
 {
-    if BITS <= n {
+    if u64::BITS <= n {
         return u64::MAX;
     }
     (1u64 << n) - 1
 }
 
-// The bits of the cells from `from` up to `to`, in the word whose first bit is cell `base`.
-fn span(base: u32, from: u32, to: u32) -> u64
-    ensures { Shows result (between from to) base }
+// The bits of the cells of a run, in the word whose first bit is cell `base`.
+fn span(base: u32, run: &Range<u32>) -> u64
+    ensures { Shows result (between run.now.start run.now.end) base }
 {
-    low(above(to, base)) & !low(above(from, base))
+    low(run.end.saturating_sub(base)) & !low(run.start.saturating_sub(base))
 }
 
-// Marks the cells from `from` up to `to`, word by word, and says whether none of them was held.
-fn mark_words(words: &mut [u64], from: u32, to: u32) -> bool
-    requires { RunIn words.old from to }
-    ensures { Marked words.old from to words.new result }
+// Marks the cells of a run, word by word, and says whether none of them was held.
+fn mark_words(words: &mut [u64], run: Range<u32>) -> bool
+    requires { RunIn words.old run.start run.end }
+    ensures { Marked words.old run.start run.end words.new result }
 {
-    let first = from / BITS;
-    let mut hit: u64 = 0;
-    let mut base = BITS * first;
-    let mut q = first as usize;
-    while base < to {
-        let run = span(base, from, to);
-        let word = words[q];
-        hit = hit | (word & run);
-        words[q] = word | run;
-        base += BITS;
-        q += 1;
+    let mut hit = 0;
+    for q in run.start / u64::BITS..run.end.div_ceil(u64::BITS) {
+        let here = span(u64::BITS * q, &run);
+        let word = words[q as usize];
+        hit |= word & here;
+        words[q as usize] = word | here;
     }
     hit == 0
 }
 
 // The same, faster: most runs lie in one word and need no loop.
-pub fn mark(words: &mut [u64], from: u32, to: u32) -> bool
-    requires { RunIn words.old from to }
-    ensures { Marked words.old from to words.new result }
+pub fn mark(words: &mut [u64], run: Range<u32>) -> bool
+    requires { RunIn words.old run.start run.end }
+    ensures { Marked words.old run.start run.end words.new result }
 {
-    let first = from / BITS;
-    let base = BITS * first;
-    if BITS < to - base {
-        return mark_words(words, from, to);
+    let first = run.start / u64::BITS;
+    let base = u64::BITS * first;
+    if u64::BITS < run.end - base {
+        return mark_words(words, run);
     }
     let q = first as usize;
-    let run = u64::MAX >> (BITS - (to - from)) << (from - base);
+    let here = u64::MAX >> (u64::BITS - (run.end - run.start)) << (run.start - base);
     let word = words[q];
-    words[q] = word | run;
-    word & run == 0
-}
-
-// The bits of the free cells among the first `cells`, in word q, whose first bit is cell `base`. There is none behind the last word.
-fn free_word(words: &[u64], q: usize, base: u32, cells: u32) -> u64
-    requires { (base ≡ word_bits * q) × (cells ≤ word_bits * length words.now) }
-    ensures { Shows result (free_below words.now cells) base }
-{
-    if words.len() <= q {
-        return 0;
-    }
-    !words[q] & low(above(cells, base))
+    words[q] = word | here;
+    word & here == 0
 }
 
 // The bits at which free and not free change; the carry is the bit below the word.
@@ -107,31 +95,40 @@ fn write_ends(part: &mut [u8], from: usize, word: u64, base: u32, height: u32) -
     let mut rest = word;
     let mut i = from;
     while rest != 0 {
-        put16(part, 2 * i, height * (base + u64::trailing_zeros(rest)));
-        rest = rest & (rest - 1);
+        put16(part, 2 * i, height * (base + rest.trailing_zeros()));
+        rest &= rest - 1;
         i += 1;
     }
     i
 }
 
-// Writes the free intervals of a column into its part, which is all zeros, and answers how many they are.
-pub fn fill(part: &mut [u8], words: &[u64], cells: u32, height: u32) -> usize
-    requires { ColumnBits words.now cells height part.old × (part.old ≡ column_part []) }
-    ensures { PartIs part.new result (bit_intervals words.now cells height) }
-{
-    let mut i: usize = 0;
-    let mut carry: u64 = 0;
-    let mut base: u32 = 0;
-    let mut q: usize = 0;
-    while q <= words.len() {
-        let free = free_word(words, q, base, cells);
-        let changes = change_word(free, carry);
-        i = write_ends(part, i, changes, base, height);
-        carry = top_bit(free);
-        base += BITS;
-        q += 1;
+impl ColumnBits<'_> {
+    // The bits of the free cells in word q. There is none behind the last word.
+    fn free(self, q: usize) -> u64
+        requires { q ≤ length self.words.now }
+        ensures { Shows result (free_below self.entry.words.now self.entry.cells) (word_bits * q) }
+    {
+        let Some(word) = self.words.get(q) else {
+            return 0;
+        };
+        !word & low(self.cells.saturating_sub(u64::BITS * q as u32))
     }
-    i / 2
+
+    // Writes the free intervals of the column into its part, which is all zeros, and answers how many they are.
+    pub fn fill(self, part: &mut [u8]) -> usize
+        requires { part.old ≡ column_part [] }
+        ensures { PartIs part.new result (bit_intervals self.entry.words.now self.entry.cells self.entry.height) }
+    {
+        let mut i = 0;
+        let mut carry = 0;
+        for q in 0..self.words.len() + 1 {
+            let free = self.free(q);
+            let changes = change_word(free, carry);
+            i = write_ends(part, i, changes, u64::BITS * q as u32, self.height);
+            carry = top_bit(free);
+        }
+        i / 2
+    }
 }
 
 // How many bits are set.
@@ -139,11 +136,5 @@ pub fn count(words: &[u64]) -> u32
     requires { length words.now ≤ most_words }
     ensures { result ≡ sum_below (word_bits * length words.now) (λ k. cond (cell_bit words.now k) 1 0) }
 {
-    let mut set: u32 = 0;
-    let mut q: usize = 0;
-    while q < words.len() {
-        set += u64::count_ones(words[q]);
-        q += 1;
-    }
-    set
+    words.iter().map(|word| word.count_ones()).sum()
 }

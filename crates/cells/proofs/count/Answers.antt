@@ -1,19 +1,12 @@
--- Answers of `cells::count`.
-use native.Mathlib.Omega.{arith}
-use lib.Count.{ones-le}
-use lib.ListN.{get_or}
-use Rattle.cells.specs.Bits.{word_bits}
-use Rattle.cells.specs.Laws.Count.{counted_start, counted_le, counted_next, counted_end}
+-- `cells::count` meets its contract. Assumes nothing.
+use Rattle.std.proofs.Common.{◌≡◌, ◌∙◌, arith, rules}
+use Rattle.std.specs.List.{sum_by}
+use Rattle.std.specs.Int.Count.{ones}
+use Rattle.std.proofs.iter.runs.Made.{chains}
+use Rattle.cells.specs.Laws.Count.{count_words}
 use Rattle.cells.proofs.count.Goals as goal
 
-pub loop-q-init : goal.loop-q-init
-loop-q-init c = counted_start _
-
-pub overflow_add-set : goal.overflow_add-set
-overflow_add-set c = omega (arith, counted_le c.loop-q.invariant, ones-le word_bits (get_or c.args.words.now c.loop-q.q 0) (omega arith))
-
-pub loop-q-preserved : goal.loop-q-preserved
-loop-q-preserved c = counted_next c.loop-q.invariant c.loop-q-test.true (omega arith)
-
 pub returns : goal.returns
-returns c = counted_end c.loop-q.invariant c.loop-q-test.false
+returns c =
+    let all : c.sum.result ≡ sum_by ones c.args.words.now = search (rules, chains) in
+    all ∙ count_words c.args.words.now (λ k. omega (arith, c.type_inv.words k))

@@ -7,5 +7,5 @@ pub returns : goal.returns
 returns c =
     let w = c in
     let a = w in
-    mark_one _ _ _ _ (omega (arith, w.if-to-base-gt-BITS.false)) (omega (arith, a.requires.room, a.requires.some)) (omega arith)
-    (run_shows _ _ _ (omega arith) a.requires.some (omega (arith, w.if-to-base-gt-BITS.false)))
+    mark_one _ _ _ _ (omega (arith, w.if-run-base-gt-BITS.false)) (omega (arith, a.requires.room, a.requires.some)) (omega arith)
+    (run_shows _ _ _ (omega arith) a.requires.some (omega (arith, w.if-run-base-gt-BITS.false)))

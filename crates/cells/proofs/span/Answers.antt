@@ -5,5 +5,5 @@ use Rattle.cells.proofs.span.Goals as goal
 
 pub returns : goal.returns
 returns c =
-    span_shows _ _ _ _ _ (omega arith) (rw c.above.ensures at c.low.ensures)
-    (rw c.above-2.ensures at c.low-2.ensures)
+    span_shows _ _ _ _ _ (omega arith) (rw c.saturating_sub.ensures at c.low.ensures)
+    (rw c.saturating_sub-2.ensures at c.low-2.ensures)

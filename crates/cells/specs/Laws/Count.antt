@@ -1,6 +1,8 @@
 -- How many bits are set: the ones of a word are its set digits, and the words are counted one after the other. Assumes nothing.
 use Rattle.std.specs.Prelude.{ℕ, zero, suc, ◌+◌, ◌-◌, ◌*◌, ◌/◌, ◌%◌, ◌^◌, ◌≤◌, ◌<◌, ◌≡◌, refl, Bool, true, false, cond, List, [], ◌∷◌, length, get_or}
-use Rattle.std.proofs.Common.{sym, ap, ap₂, ◌∙◌, arith, pow-suc, add-zero}
+use Rattle.std.proofs.Common.{sym, ap, ap₂, ◌∙◌, arith, pow-suc, add-zero, add-one, take, take_all}
+use Rattle.std.specs.List.{sum_by}
+use Rattle.std.proofs.lemmas.List.Sums.{sum_by_more}
 use Rattle.std.specs.Int.Count.{ones, ones_step}
 use Rattle.model.specs.Bounded.{sum_below}
 use Rattle.model.proofs.Laws.Bounded.{sum_ext, sum_zero}
@@ -72,25 +74,14 @@ count_below ws n l h =
     let z = sum_zero (word_bits * length ws - n) (λ k. one_for (cell_bit ws) (n + k)) (λ k q. ap (λ (b : Bool). cond b 1 0) (h (n + k) (omega arith))) in
     ap (λ (x : ℕ). sum_below x (one_for (cell_bit ws))) e ∙ omega (arith, sum_split n (word_bits * length ws - n) (one_for (cell_bit ws)), z)
 
--- ---- the loop
+-- ---- all words
 
--- n bits are set in the first i words, which are no more than there are
-pub record Counted (ws : List ℕ) (i n : ℕ) : Type 0 where
-  pub passed : i ≤ length ws
-  pub count : n ≡ sum_below (word_bits * i) (one_for (cell_bit ws))
-
-pub counted_start : (ws : List ℕ) → Counted ws 0 0
+counted : (ws : List ℕ) → ((k : ℕ) → get_or ws k 0 < 2 ^ word_bits) → (i : ℕ) → i ≤ length ws → sum_by ones (take i ws) ≡ sum_below (word_bits * i) (one_for (cell_bit ws))
 unfolding sum_below
-counted_start ws = record { passed = omega arith; count = refl }
+counted ws fit zero l = refl
+counted ws fit (suc i) l =
+    rw add-one at (sum_by_more ones ws i 0 (omega arith)) ∙ ap (λ (n : ℕ). n + ones (get_or ws i 0)) (counted ws fit i (omega arith)) ∙ sym (count_word ws i (fit i))
 
--- no more than all bits of the words passed
-pub counted_le : {ws : List ℕ} {i n : ℕ} → Counted ws i n → n ≤ word_bits * i
-counted_le {ws} {i} {n} c = omega (arith, c.count, count_le (word_bits * i) (cell_bit ws))
-
-pub counted_next : {ws : List ℕ} {i n : ℕ} → Counted ws i n → i < length ws → get_or ws i 0 < 2 ^ word_bits → Counted ws (i + 1) (n + ones (get_or ws i 0))
-counted_next {ws} {i} {n} c l w =
-    let e : i + 1 ≡ suc i = omega arith in
-    record { passed = omega arith; count = rw e (omega (arith, c.count, count_word ws i w)) }
-
-pub counted_end : {ws : List ℕ} {i n : ℕ} → Counted ws i n → length ws ≤ i → n ≡ sum_below (word_bits * length ws) (one_for (cell_bit ws))
-counted_end {ws} {i} {n} c l = let e : length ws ≡ i = omega (arith, c.passed) in rw e c.count
+-- THEOREM: the ones of all words are the set bits
+pub count_words : (ws : List ℕ) → ((k : ℕ) → get_or ws k 0 < 2 ^ word_bits) → sum_by ones ws ≡ sum_below (word_bits * length ws) (one_for (cell_bit ws))
+count_words ws fit = rw (take_all (length ws) ws (omega arith)) at (counted ws fit (length ws) (omega arith))

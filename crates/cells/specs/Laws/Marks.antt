@@ -71,18 +71,18 @@ bit_in_word ws i k q =
     let f : (word_bits * i + k) % word_bits ≡ k = omega arith in
     rw (e, f)
 
-pub free_shows : (ws : List ℕ) (n i m : ℕ) {a : ℕ} → a ≡ word_bits * i → get_or ws i 0 < 2 ^ word_bits → Shows m (λ k. ltb k (n - a)) 0
-    → Shows (bit_and ((2 ^ word_bits - 1) - get_or ws i 0) m) (free_below ws n) a
+pub free_shows : (ws : List ℕ) (n i m x : ℕ) → x ≡ get_or ws i 0 → x < 2 ^ word_bits → Shows m (λ k. ltb k (n - word_bits * i)) 0
+    → Shows (bit_and ((2 ^ word_bits - 1) - x) m) (free_below ws n) (word_bits * i)
 unfolding free_below is_free
-free_shows ws n i m {a} e l u k q =
-    let here : digit (get_or ws i 0) k ≡ cell_bit ws (a + k) = rw e (sym (bit_in_word ws i k q)) in
-    digit_and ((2 ^ word_bits - 1) - get_or ws i 0) m k
-    ∙ ap₂ (λ (s t : Bool). s && t) (digit_not word_bits (get_or ws i 0) k l q ∙ ap not here) (u k q ∙ ltb_from n a k)
-    ∙ and_comm (not (cell_bit ws (a + k))) (ltb (a + k) n)
+free_shows ws n i m x e l u k q =
+    let here : digit x k ≡ cell_bit ws (word_bits * i + k) = rw e (sym (bit_in_word ws i k q)) in
+    digit_and ((2 ^ word_bits - 1) - x) m k
+    ∙ ap₂ (λ (s t : Bool). s && t) (digit_not word_bits x k l q ∙ ap not here) (u k q ∙ ltb_from n (word_bits * i) k)
+    ∙ and_comm (not (cell_bit ws (word_bits * i + k))) (ltb (word_bits * i + k) n)
 
-pub free_none : (ws : List ℕ) (n i : ℕ) {a : ℕ} → a ≡ word_bits * i → length ws ≤ i → n ≤ word_bits * length ws → Shows 0 (free_below ws n) a
+pub free_none : (ws : List ℕ) (n i : ℕ) → length ws ≤ i → n ≤ word_bits * length ws → Shows 0 (free_below ws n) (word_bits * i)
 unfolding free_below
-free_none ws n i {a} e l h k q = digit_zero k ∙ sym (rw (le-ltb (a + k) n (omega arith)))
+free_none ws n i l h k q = digit_zero k ∙ sym (rw (le-ltb (word_bits * i + k) n (omega arith)))
 
 -- ---- changes
 

@@ -13,8 +13,8 @@ use Rattle.model.specs.Record.{bytes16, column_part}
 use Rattle.model.specs.Parts.{splice}
 use Rattle.model.proofs.Laws.Parts.{length_splice}
 use Rattle.model.proofs.Laws.Cells.{scaled}
-use Rattle.cells.specs.Bits.{word_bits, is_set, Shows}
-use Rattle.cells.specs.Ends.{hits, spots, one_below, change, ends, is_free, free_below, bit_intervals, ColumnBits, numbered, Writable, EndsWritten, PartIs}
+use Rattle.cells.specs.Bits.{most_words, word_bits, is_set, Shows}
+use Rattle.cells.specs.Ends.{hits, spots, one_below, change, ends, is_free, free_below, bit_intervals, numbered, Writable, EndsWritten, PartIs}
 use Rattle.cells.specs.Laws.Spots.{cleared, spots_none, spots_next, spots_hits, hits_append}
 use Rattle.cells.specs.Laws.Coded.{ends_length, column_numbered, numbered_push, numbered_length, small_append}
 use Rattle.cells.specs.Laws.Ends.{free_changes, small_ends}
@@ -76,8 +76,15 @@ word_ends ws n base t d =
     let g = change (free_below ws n) in
     hits_append g 0 base word_bits ∙ ap (λ (l : List ℕ). hits g 0 base ++ l) (ap (λ (a : ℕ). hits g a word_bits) (zero-add base) ∙ sym (spots_hits g base word_bits t d))
 
+-- a column whose part can be written: the words hold its n cells, and the ends, h apart, are two-byte numbers
+pub record Fillable (ws : List ℕ) (n h : ℕ) : Type 0 where
+  pub few : n ≤ 2 * max_intervals
+  pub room : n ≤ word_bits * length ws
+  pub short : length ws ≤ most_words
+  pub small : h * n < words
+
 -- the free runs, by their ends
-module _ (ws : List ℕ) (n h : ℕ) (p : List ℕ) (c : ColumnBits ws n h p) where
+module _ (ws : List ℕ) (n h : ℕ) (c : Fillable ws n h) where
   abbrev pub runs_of : List Interval
   runs_of = maximal_runs (is_free ws) n
 
@@ -92,64 +99,62 @@ module _ (ws : List ℕ) (n h : ℕ) (p : List ℕ) (c : ColumnBits ws n h p) wh
   unfolding bit_intervals
   runs_length = length-map runs_of (scaled h)
 
-  -- those below a word, those in it, and the rest
-  pub split_ends : (base t : ℕ) → Shows t (change (free_below ws n)) base → base ≤ word_bits * length ws
-      → (rest : List ℕ) × (ends runs_of ≡ (hits (change (free_below ws n)) 0 base ++ spots base word_bits t) ++ rest)
-  split_ends base t d l =
+  -- those below word q, those in it, and the rest
+  pub split_ends : (q t : ℕ) → Shows t (change (free_below ws n)) (word_bits * q) → q ≤ length ws
+      → (rest : List ℕ) × (ends runs_of ≡ (hits (change (free_below ws n)) 0 (word_bits * q) ++ spots (word_bits * q) word_bits t) ++ rest)
+  split_ends q t d l =
       let g = change (free_below ws n) in
+      let base = word_bits * q in
       let m = word_bits * (length ws + 1) - (base + word_bits) in
       let sum : base + word_bits + m ≡ word_bits * (length ws + 1) = omega arith in
       let rest = hits g (0 + (base + word_bits)) m in
       (rest, sym all_ends ∙ ap (hits g 0) (sym sum) ∙ hits_append g 0 (base + word_bits) m ∙ ap (λ (l : List ℕ). l ++ rest) (word_ends ws n base t d))
 
--- the part p has the changes below `base`, which is the first bit of word q, and there are i of them
-pub record Filling (ws : List ℕ) (n h : ℕ) (p : List ℕ) (i carry base q : ℕ) : Type 0 where
-  pub place : base ≡ word_bits * q
-  pub within : q ≤ length ws + 1
+-- the part p has the changes in the first q words, and there are i of them
+pub record Filling (ws : List ℕ) (n h : ℕ) (p : List ℕ) (i carry q : ℕ) : Type 0 where
   pub one : carry < 2
-  pub carry_is : is_set carry ≡ one_below (free_below ws n) base
-  pub wrote : p ≡ numbered h (hits (change (free_below ws n)) 0 base)
-  pub count : i ≡ length (hits (change (free_below ws n)) 0 base)
+  pub carry_is : is_set carry ≡ one_below (free_below ws n) (word_bits * q)
+  pub wrote : p ≡ numbered h (hits (change (free_below ws n)) 0 (word_bits * q))
+  pub count : i ≡ length (hits (change (free_below ws n)) 0 (word_bits * q))
 
-pub filling_start : (ws : List ℕ) (n h : ℕ) (p : List ℕ) → p ≡ column_part [] → Filling ws n h p 0 0 0 0
+pub filling_start : (ws : List ℕ) (n h : ℕ) (p : List ℕ) → p ≡ column_part [] → Filling ws n h p 0 0 0
 unfolding hits
-filling_start ws n h p e = record { place = refl; within = omega arith; one = omega arith; carry_is = refl; wrote = e ∙ column_numbered h []; count = refl }
+filling_start ws n h p e = record { one = omega arith; carry_is = refl; wrote = e ∙ column_numbered h []; count = refl }
 
-module _ (ws : List ℕ) (n h : ℕ) (p₀ : List ℕ) (c : ColumnBits ws n h p₀) {p : List ℕ} {i carry base q : ℕ} (w : Filling ws n h p i carry base q) where
+module _ (ws : List ℕ) (n h : ℕ) (c : Fillable ws n h) {p : List ℕ} {i carry q : ℕ} (w : Filling ws n h p i carry q) where
   pub filling_size : length p ≡ column_size
-  filling_size = ap length w.wrote ∙ numbered_length h (hits (change (free_below ws n)) 0 base)
+  filling_size = ap length w.wrote ∙ numbered_length h (hits (change (free_below ws n)) 0 (word_bits * q))
 
-  module _ (t : ℕ) (d : Shows t (change (free_below ws n)) base) where
-    pub filling_room : q ≤ length ws → Writable h p i (spots base word_bits t)
+  module _ (t : ℕ) (d : Shows t (change (free_below ws n)) (word_bits * q)) where
+    pub filling_room : q ≤ length ws → Writable h p i (spots (word_bits * q) word_bits t)
     filling_room k =
-        let H = hits (change (free_below ws n)) 0 base in
-        let (rest, cut) = split_ends ws n h p₀ c base t d (omega (arith, w.place)) in
-        let (a, b) = small_append h (H ++ spots base word_bits t) rest (rw cut at (small_ends h n (is_free ws) c.small)) in
+        let H = hits (change (free_below ws n)) 0 (word_bits * q) in
+        let L = spots (word_bits * q) word_bits t in
+        let (rest, cut) = split_ends ws n h c q t d k in
+        let (a, b) = small_append h (H ++ L) rest (rw cut at (small_ends h n (is_free ws) c.small)) in
         record {
           size = filling_size;
-          few = omega (arith, w.count, ap length cut, length-append (H ++ spots base word_bits t) rest, length-append H (spots base word_bits t), ends_length (runs_of ws n h p₀ c), few ws n h p₀ c);
-          small = (small_append h H (spots base word_bits t) a).1;
+          few = omega (arith, w.count, ap length cut, length-append (H ++ L) rest, length-append H L, ends_length (runs_of ws n h c), few ws n h c);
+          small = (small_append h H L a).1;
         }
 
-    pub filling_next : q ≤ length ws → (next : ℕ) → next < 2 → is_set next ≡ one_below (free_below ws n) (base + word_bits)
-        → (o : List ℕ) (m : ℕ) → EndsWritten h p i (spots base word_bits t) o m → Filling ws n h o m next (base + word_bits) (q + 1)
-    filling_next k next u v o m r =
-        let more = word_ends ws n base t d in
+    pub filling_next : (next : ℕ) → next < 2 → is_set next ≡ one_below (free_below ws n) (word_bits * q + word_bits)
+        → (o : List ℕ) (m : ℕ) → EndsWritten h p i (spots (word_bits * q) word_bits t) o m → Filling ws n h o m next (q + 1)
+    filling_next next u v o m r =
+        let more = word_ends ws n (word_bits * q) t d in
+        let e : word_bits * (q + 1) ≡ word_bits * q + word_bits = omega arith in
         record {
-          place = omega (arith, w.place);
-          within = omega arith;
           one = u;
-          carry_is = v;
-          wrote = rw more (r.wrote _ w.wrote w.count);
-          count = rw (more, length-append) (omega (arith, w.count, r.count));
+          carry_is = rw e v;
+          wrote = rw (e, more) (r.wrote _ w.wrote w.count);
+          count = rw (e, more, length-append) (omega (arith, w.count, r.count));
         }
 
-  pub filling_end : length ws < q → PartIs p (i / 2) (bit_intervals ws n h)
+  pub filling_end : q ≡ length ws + 1 → PartIs p (i / 2) (bit_intervals ws n h)
   unfolding bit_intervals
   filling_end k =
-      let f : base ≡ word_bits * (length ws + 1) = omega (arith, w.place, w.within) in
-      let whole : hits (change (free_below ws n)) 0 base ≡ ends (runs_of ws n h p₀ c) = ap (hits (change (free_below ws n)) 0) f ∙ all_ends ws n h p₀ c in
+      let whole : hits (change (free_below ws n)) 0 (word_bits * q) ≡ ends (runs_of ws n h c) = rw k (all_ends ws n h c) in
       record {
-        bytes_are = w.wrote ∙ ap (numbered h) whole ∙ sym (column_numbered h (runs_of ws n h p₀ c));
-        count_is = omega (arith, w.count, ap length whole, ends_length (runs_of ws n h p₀ c), runs_length ws n h p₀ c);
+        bytes_are = w.wrote ∙ ap (numbered h) whole ∙ sym (column_numbered h (runs_of ws n h c));
+        count_is = omega (arith, w.count, ap length whole, ends_length (runs_of ws n h c), runs_length ws n h c);
       }
