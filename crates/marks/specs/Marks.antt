@@ -1,10 +1,10 @@
--- The blocks of a task, marked in the bits of a record's columns. Assumes nothing.
-use Rattle.std.specs.Prelude.{ℕ, suc, ◌*◌, ◌/◌, ◌<◌, ◌≡◌, Bool, true, List, length}
-use Rattle.model.specs.Limits.{bytes, max_rows, max_columns, record_size, words}
-use Rattle.model.specs.Columns.{device_ok}
+-- The blocks of a task, marked in the bits of a card's columns. Assumes nothing.
+use Rattle.std.specs.Prelude.{ℕ, suc, ◌*◌, ◌/◌, ◌<◌, ◌≡◌, Bool, true, List}
+use Rattle.model.specs.Limits.{bytes, max_rows, max_columns, words}
+use Rattle.model.specs.Columns.{Device}
 use Rattle.model.specs.Tasks.{Block, blocks, block, well_formed}
 use Rattle.model.specs.Book.{Book, placed, held, block_fits, fits}
-use Rattle.model.specs.Record.{part, device_of}
+use Rattle.model.specs.Record.{part}
 use Rattle.cells.specs.Bits.{word_bits}
 use Rattle.cells.specs.Laws.Book.{Shown, held_with}
 
@@ -20,30 +20,24 @@ all_words = column_words * max_columns
 abbrev pub words_of : List ℕ → ℕ → List ℕ
 words_of H c = part H (column_words * c) column_words
 
--- r has a record's length and says a device, and H has the words of all columns
-pub record Bitmap (r H : List ℕ) : Type 0 where
-  pub size : length r ≡ record_size
-  pub device : device_ok (device_of r) ≡ true
-  pub whole : length H ≡ all_words
-
 -- a position that can be read from an entry
 pub record EntryPosition (p y : ℕ) : Type 0 where
   pub column : p < bytes
   pub bottom : y < words
 
 -- block j of t is k, and what the book b and the blocks before j hold is marked in H
-pub record BlockDue (r H : List ℕ) (k : Block) (p y : ℕ) (b : Book) (t : List ℕ) (j : ℕ) : Type 0 where
+pub record BlockDue (d : Device) (H : List ℕ) (k : Block) (p y : ℕ) (b : Book) (t : List ℕ) (j : ℕ) : Type 0 where
   pub formed : well_formed t ≡ true
   pub among : j < blocks t
   pub is : block t j ≡ k
-  pub shown : Shown (device_of r) (held_with b (placed t p y) j) (words_of H)
+  pub shown : Shown d (held_with b (placed t p y) j) (words_of H)
 
 -- ok says whether the block k fits on each book that the bits show, and if so it is marked; if not, the words are of no more use
-pub record BlockMarked (r H : List ℕ) (k : Block) (p y : ℕ) (U : List ℕ) (ok : Bool) : Type 0 where
-  pub answers : (b : Book) (t : List ℕ) (j : ℕ) → BlockDue r H k p y b t j → ok ≡ block_fits (device_of r) b k p y
-  pub marks : (b : Book) (t : List ℕ) (j : ℕ) → BlockDue r H k p y b t j → ok ≡ true → Shown (device_of r) (held_with b (placed t p y) (suc j)) (words_of U)
+pub record BlockMarked (d : Device) (H : List ℕ) (k : Block) (p y : ℕ) (U : List ℕ) (ok : Bool) : Type 0 where
+  pub answers : (b : Book) (t : List ℕ) (j : ℕ) → BlockDue d H k p y b t j → ok ≡ block_fits d b k p y
+  pub marks : (b : Book) (t : List ℕ) (j : ℕ) → BlockDue d H k p y b t j → ok ≡ true → Shown d (held_with b (placed t p y) (suc j)) (words_of U)
 
 -- ok says whether the task t fits on each book that the bits show, and if so its blocks are marked; if not, the words are of no more use
-pub record TaskMarked (r H t : List ℕ) (p y : ℕ) (U : List ℕ) (ok : Bool) : Type 0 where
-  pub answers : (b : Book) → Shown (device_of r) (held b) (words_of H) → ok ≡ fits (device_of r) b t p y
-  pub marks : (b : Book) → Shown (device_of r) (held b) (words_of H) → ok ≡ true → Shown (device_of r) (held_with b (placed t p y) (blocks t)) (words_of U)
+pub record TaskMarked (d : Device) (H t : List ℕ) (p y : ℕ) (U : List ℕ) (ok : Bool) : Type 0 where
+  pub answers : (b : Book) → Shown d (held b) (words_of H) → ok ≡ fits d b t p y
+  pub marks : (b : Book) → Shown d (held b) (words_of H) → ok ≡ true → Shown d (held_with b (placed t p y) (blocks t)) (words_of U)

@@ -1,0 +1,9 @@
+-- `marks::HeldCells::column` meets its contract. Assumes nothing.
+use Rattle.std.proofs.Common.{arith}
+use Rattle.std.proofs.Math.Nat.{add-sub_cancel_left}
+use Rattle.model.specs.Record.{part}
+use Rattle.marks.proofs.HeldCells.column.Goals as goal
+
+pub returns : goal.returns
+unfolding part
+returns c = rw add-sub_cancel_left
