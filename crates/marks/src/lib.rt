@@ -8,7 +8,7 @@ ghost use Rattle.model.specs.Blocks.{Solid};
 ghost use Rattle.model.specs.Record.{device_of};
 ghost use Rattle.task.specs.Blocks.{seen};
 ghost use Rattle.marks.specs.Device.{as_device};
-ghost use Rattle.marks.specs.Marks.{all_words, words_of, EntryPosition, BlockMarked, TaskMarked};
+ghost use Rattle.marks.specs.Marks.{column_words, all_words, words_of, EntryPosition, BlockMarked, TaskMarked};
 
 use cells::mark;
 use model::{COLUMNS_AT, KINDS_AT, MAX_COLUMNS, MAX_ROWS, REACH, ROWS_AT};
@@ -60,7 +60,8 @@ impl HeldCells {
     // The words of column c.
     pub fn column(&self, c: usize) -> &[u64]
         requires { c < max_columns }
-        ensures { result.now ≡ words_of self.now.words c }
+        ensures words { result.now ≡ words_of self.now.words c }
+        ensures len { length result.now ≡ column_words }
     {
         let a = COLUMN_WORDS * c;
         let e = a + COLUMN_WORDS;

@@ -1,14 +1,13 @@
 -- MODEL 9: a record checked in one pass over its bytes, as the contracts of `sound` and of what it calls have it. Assumes nothing.
-use Rattle.std.specs.Prelude.{ℕ, ◌+◌, ◌*◌, ◌≤◌, ◌<◌, ◌≡◌, Bool, true, false, List, length, get_or, take}
-use Rattle.model.specs.Limits.{max_running, max_blocks, block_size, record_size, columns_at, running_at, kinds_at, counts_at, intervals_at, column_size, entries_at, blocks_at, entry_size}
-use Rattle.model.specs.Columns.{device_ok}
+use Rattle.std.specs.Prelude.{ℕ, ◌+◌, ◌*◌, ◌≤◌, ◌<◌, ◌≡◌, Bool, true, false, List, get_or, take}
+use Rattle.model.specs.Limits.{max_blocks, block_size, record_size, columns_at, running_at, kinds_at, counts_at, intervals_at, column_size, entries_at, blocks_at, entry_size}
 use Rattle.model.specs.Book.{held, intervals}
 use Rattle.model.specs.Record.{part, column_at, entry_at, device_of, book_of}
 use Rattle.model.specs.Sound.{within, block_count, count_of, sound}
 use Rattle.model.proofs.Laws.Clauses.{Zero}
 use Rattle.cells.specs.Ends.{PartIs}
 use Rattle.cells.specs.Laws.Book.{Shown}
-use Rattle.marks.specs.Marks.{words_of, Bitmap}
+use Rattle.marks.specs.Marks.{words_of}
 
 -- MODEL 9.8: the unused bytes of entry i, which has blocks, are 0
 abbrev pub RestZero : List ℕ → ℕ → Type 0
@@ -16,7 +15,6 @@ RestZero r i = Zero r (entry_at i + blocks_at + block_size * block_count r i) (e
 
 -- the cells that r's first j tasks hold are marked in H; these tasks are within the limits, have 1 to `max_blocks` blocks each, and zeros behind them
 pub record TasksHeld (r H : List ℕ) (j : ℕ) : Type 0 where
-  pub bitmap : Bitmap r H
   pub limits : within (device_of r) (take j (book_of r)) ≡ true
   pub shown : Shown (device_of r) (held (take j (book_of r))) (words_of H)
   pub rests : (i : ℕ) → i < j → RestZero r i
@@ -31,24 +29,12 @@ ColumnOk r c = PartIs (part r (column_at c) column_size) (count_of r c) (interva
 abbrev pub ColumnsOk : List ℕ → ℕ → Type 0
 ColumnsOk r n = (c : ℕ) → c < n → ColumnOk r c
 
--- ok says whether column c of r has the part f and the count n
-pub record HasPart (r : List ℕ) (c : ℕ) (f : List ℕ) (n : ℕ) (ok : Bool) : Type 0 where
-  pub bytes_are : ok ≡ true → part r (column_at c) column_size ≡ f
-  pub count_is : ok ≡ true → count_of r c ≡ n
-  pub otherwise : ok ≡ false → part r (column_at c) column_size ≡ f → count_of r c ≡ n → ⊥
-
 -- MODEL 9.8: the bytes behind the kinds, the counts, the parts and the entries that are in use are 0
 pub record Unused (r : List ℕ) : Type 0 where
   pub kinds : Zero r (kinds_at + get_or r columns_at 0) counts_at
   pub counts : Zero r (counts_at + get_or r columns_at 0) intervals_at
   pub parts : Zero r (column_at (get_or r columns_at 0)) entries_at
   pub entries : Zero r (entry_at (get_or r running_at 0)) record_size
-
--- r has the length of a record, says a device, and has no more entries than fit
-pub record Legible (r : List ℕ) : Type 0 where
-  pub size : length r ≡ record_size
-  pub device : device_ok (device_of r) ≡ true
-  pub few_running : get_or r running_at 0 ≤ max_running
 
 -- where ok, P holds; and where not, r is not sound, for this or for another reason
 pub record Judged (r : List ℕ) (P : Type 0) (ok : Bool) : Type 0 where

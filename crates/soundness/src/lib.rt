@@ -2,207 +2,221 @@
 // the clear bits of each column are compared with its intervals.
 #![tactic(auto)]
 
-ghost use Rattle.std.specs.Prelude.{◌≡◌, ◌+◌, ◌<◌, length, get_or, ltb, []};
-ghost use Rattle.model.specs.Limits.{max_columns, record_size, columns_at, running_at};
+ghost use Rattle.std.specs.Prelude.{◌≡◌, ◌↔◌, ◌+◌, ◌≤◌, ◌<◌, IsTrue, MatchOption, EachIndex, slice_index, length, get_or, replicate, true, false};
+ghost use Rattle.model.specs.Limits.{max_columns, max_running, record_size, columns_at, running_at, column_size};
 ghost use Rattle.model.specs.Columns.{device_ok};
 ghost use Rattle.model.specs.Book.{intervals};
-ghost use Rattle.model.specs.Record.{column_part, device_of, book_of};
-ghost use Rattle.model.specs.Sound.{sound};
+ghost use Rattle.model.specs.Record.{part, column_at, device_of, book_of};
+ghost use Rattle.model.specs.Sound.{count_of, sound};
+ghost use Rattle.model.proofs.Laws.Clauses.{Zero};
+ghost use Rattle.model.proofs.Laws.WriteBack.{Bytes};
 ghost use Rattle.cells.specs.Ends.{PartIs};
-ghost use Rattle.record.specs.Entries.{entry_of, HasEntry};
-ghost use Rattle.record.specs.Rebuild.{prior};
-ghost use Rattle.soundness.specs.Soundness.{TasksHeld, ColumnOk, ColumnsOk, HasPart, Unused, Legible, Judged};
+ghost use Rattle.marks.specs.Device.{as_device};
+ghost use Rattle.soundness.specs.Soundness.{TasksHeld, ColumnOk, ColumnsOk, Unused, Judged};
 
-use cells::fill;
-use marks::{ALL_WORDS, COLUMN_WORDS, mark_task};
+use cells::ColumnBits;
+use marks::{Device, HeldCells};
 use model::{
-    COLUMN_SIZE, COLUMNS_AT, COUNTS_AT, ENTRIES_AT, ENTRY_SIZE, INTERVALS_AT, KINDS_AT, Kind,
-    KindRead, MAX_BLOCKS, MAX_RUNNING, RECORD_SIZE, ROWS_AT,
+    COLUMN_SIZE, COUNTS_AT, ENTRIES_AT, ENTRY_SIZE, INTERVALS_AT, KINDS_AT, Kind, MAX_BLOCKS,
+    MAX_RUNNING, RECORD_SIZE,
 };
 use record::device::device_ok;
-use record::entries::{number_at, read_entry, running};
-use task::well_formed;
-use words::{equal, get16, wide, zeros};
+use record::entries::{read_entry, running};
+use record::sound::rises;
+use std::ops::Range;
+use task::{Position, Task};
+use words::zeros;
 
-// MODEL 9.2: whether the bytes say a device.
-fn says_device(record: &[u8]) -> bool
-    requires { length «record».now ≡ record_size }
-    ensures { result ≡ device_ok (device_of «record».now) }
-{
-    let rows = get16(record, ROWS_AT);
-    let columns = wide(record[COLUMNS_AT]) as usize;
-    let end = KINDS_AT + columns;
-    device_ok(rows, &record[KINDS_AT..end])
+// MODEL 9.1 to 9.3: bytes that have the length of a record, say a device, and have no more entries than fit.
+#[derive(Clone, Copy)]
+struct Legible<'a> {
+    bytes: &'a [u8],
+    device: Device<'a>,
+    ghost octets: { Bytes bytes.now },
+    ghost size: { length bytes.now ≡ record_size },
+    ghost said: { as_device device ≡ device_of bytes.now },
+    ghost whole: { device_ok (as_device device) ≡ true },
+    ghost narrow: { length device.kinds.now ≤ max_columns },
+    ghost counted: { length device.kinds.now ≡ get_or bytes.now columns_at 0 },
+    ghost few: { get_or bytes.now running_at 0 ≤ max_running },
 }
 
-// MODEL 9.8: whether the bytes behind the kinds, the counts, the parts and the entries that are in use are 0.
-fn unused_ok(record: &[u8]) -> bool
-    requires { Legible «record».now }
-    ensures { Judged «record».now (Unused «record».now) result }
-{
-    let columns = wide(record[COLUMNS_AT]) as usize;
-    let kinds = KINDS_AT + columns;
-    if !zeros(&record[kinds..COUNTS_AT]) {
-        return false;
-    }
-    let counts = COUNTS_AT + columns;
-    if !zeros(&record[counts..INTERVALS_AT]) {
-        return false;
-    }
-    let parts = INTERVALS_AT + COLUMN_SIZE * columns;
-    if !zeros(&record[parts..ENTRIES_AT]) {
-        return false;
-    }
-    let entries = ENTRIES_AT + ENTRY_SIZE * running(record);
-    zeros(&record[entries..RECORD_SIZE])
+// The same where the cells of all running tasks are marked.
+#[derive(Clone, Copy)]
+struct Marked<'a> {
+    legible: Legible<'a>,
+    held: &'a HeldCells,
+    ghost tasks: { TasksHeld legible.bytes.now held.now.words (get_or legible.bytes.now running_at 0) },
 }
 
-// MODEL 9.4: whether the number of running entry j is above that of the entry before it, and the first is 1 or more.
-fn rises(record: &[u8], j: usize) -> bool
-    requires { HasEntry «record».now j }
-    ensures { result ≡ ltb (prior 0 (book_of «record».now) j) (entry_of «record».now j).number }
+// Are two slices of one length equal? The loop has no exit but its end, so that it vectorises where it is called.
+fn same(a: &[u8], b: &[u8]) -> bool
+    requires { length a.now ≡ length b.now }
+    ensures { IsTrue result ↔ EachIndex a.now (λ k. slice_index a.now k ≡ slice_index b.now k) }
 {
-    let number = number_at(record, j);
-    if j == 0 {
-        return 0 < number;
+    let mut same = true;
+    for (x, y) in a.iter().zip(b) {
+        same &= x == y;
     }
-    number_at(record, j - 1) < number
+    same
 }
 
-// MODEL 9.3 to 9.6: marks the cells of running entry j, and says whether it is one of a sound record. Its blocks are passed on as a slice that
-// starts inside the record (MODEL 21.5).
-fn mark_entry(record: &[u8], held: &mut [u64], j: usize) -> bool
-    requires { HasEntry «record».now j × TasksHeld «record».now held.old j }
-    ensures { Judged «record».now (TasksHeld «record».now held.new (j + 1)) result }
-{
-    if !rises(record, j) {
-        return false;
+impl<'a> Legible<'a> {
+    // The bytes, where they are legible; else they are no sound record.
+    fn read(bytes: &'a [u8]) -> Option<Legible<'a>>
+        ensures { MatchOption result (sound bytes.now ≡ false) (λ l. l.bytes.now ≡ bytes.now) }
+    {
+        if bytes.len() != RECORD_SIZE {
+            return None;
+        }
+        let device = Device::said(bytes);
+        if !device_ok(device.rows, device.kinds) || running(bytes) > MAX_RUNNING {
+            return None;
+        }
+        Some(Legible { bytes, device })
     }
-    let entry = read_entry(record, j);
-    if entry.count == 0 {
-        return false;
-    }
-    if entry.count > MAX_BLOCKS {
-        return false;
-    }
-    let from = entry.from;
-    let to = entry.to;
-    if !well_formed(&record[from..to]) {
-        return false;
-    }
-    let end = ENTRIES_AT + ENTRY_SIZE * j + ENTRY_SIZE;
-    if !zeros(&record[to..end]) {
-        return false;
-    }
-    mark_task(record, held, &record[from..to], entry.column, entry.bottom)
-}
 
-// The same for all running entries, up to the first that is not one of a sound record.
-fn mark_entries(record: &[u8], held: &mut [u64]) -> bool
-    requires { Legible «record».now × TasksHeld «record».now held.old 0 }
-    ensures { Judged «record».now (TasksHeld «record».now held.new (get_or «record».now running_at 0)) result }
-{
-    let count = running(record);
-    let mut j = 0;
-    while j < count {
-        if !mark_entry(record, held, j) {
+    // Whether the bytes of a range are 0.
+    fn zeros(&self, range: Range<usize>) -> bool
+        requires some { range.start ≤ range.end }
+        requires within { range.end ≤ record_size }
+        ensures { IsTrue result ↔ Zero self.now.bytes.now range.start range.end }
+    {
+        zeros(&self.bytes[range.start..range.end])
+    }
+
+    // MODEL 9.8: whether the bytes behind the kinds, the counts, the parts and the entries that are in use are 0.
+    fn unused_ok(&self) -> bool
+        ensures { IsTrue result ↔ Unused self.now.bytes.now }
+    {
+        let columns = self.device.kinds.len();
+        self.zeros(KINDS_AT + columns..COUNTS_AT)
+            && self.zeros(COUNTS_AT + columns..INTERVALS_AT)
+            && self.zeros(INTERVALS_AT + COLUMN_SIZE * columns..ENTRIES_AT)
+            && self.zeros(ENTRIES_AT + ENTRY_SIZE * running(self.bytes)..RECORD_SIZE)
+    }
+
+    // MODEL 9.3 to 9.6: marks the cells of running entry j, and says whether it is one of a sound record. Its blocks are read where they stand
+    // (MODEL 21.5).
+    fn mark_entry(&self, held: &mut HeldCells, j: usize) -> bool
+        requires runs { j < get_or self.now.bytes.now running_at 0 }
+        requires tasks { TasksHeld self.now.bytes.now held.old.words j }
+        ensures { Judged self.now.bytes.now (TasksHeld self.now.bytes.now held.new.words (j + 1)) result }
+    {
+        if !rises(self.bytes, j) {
             return false;
         }
-        j += 1;
-    }
-    true
-}
-
-// MODEL 7.3 and 8.3: writes the free intervals of column c by its bits, and answers how many they are.
-fn fresh_part(record: &[u8], held: &[u64], c: usize, fresh: &mut [u8]) -> usize
-    requires { TasksHeld «record».now held.now (get_or «record».now running_at 0) × (c < get_or «record».now columns_at 0) × (fresh.old ≡ column_part []) }
-    ensures { PartIs fresh.new result (intervals (device_of «record».now) (book_of «record».now) c) }
-{
-    let KindRead::Known(kind) = Kind::of_byte(record[KINDS_AT + c]) else {
-        return 0;
-    };
-    let rows = get16(record, ROWS_AT);
-    let w = COLUMN_WORDS * c;
-    let z = w + COLUMN_WORDS;
-    fill(fresh, &held[w..z], kind.cells(rows), kind.height())
-}
-
-// Whether column c has this part and this count.
-fn has_part(record: &[u8], c: usize, part: &[u8], count: usize) -> bool
-    requires { (length «record».now ≡ record_size) × (c < max_columns) }
-    ensures { HasPart «record».now c part.now count result }
-{
-    if wide(record[COUNTS_AT + c]) as usize != count {
-        return false;
-    }
-    let a = INTERVALS_AT + COLUMN_SIZE * c;
-    let e = a + COLUMN_SIZE;
-    equal(&record[a..e], part)
-}
-
-// MODEL 9.7: whether column c lists its free intervals.
-fn column_ok(record: &[u8], held: &[u64], c: usize) -> bool
-    requires { TasksHeld «record».now held.now (get_or «record».now running_at 0) × (c < get_or «record».now columns_at 0) }
-    ensures { Judged «record».now (ColumnOk «record».now c) result }
-{
-    let mut fresh = [0u8; COLUMN_SIZE];
-    let count = fresh_part(record, held, c, &mut fresh);
-    has_part(record, c, &fresh, count)
-}
-
-// The same for columns c and c + 1. Each part is read some time after it was written: bytes read at once would have to wait for the writes.
-fn two_ok(record: &[u8], held: &[u64], c: usize) -> bool
-    requires { TasksHeld «record».now held.now (get_or «record».now running_at 0) × (c + 1 < get_or «record».now columns_at 0) }
-    ensures { Judged «record».now (ColumnOk «record».now c × ColumnOk «record».now (c + 1)) result }
-{
-    let mut lower = [0u8; COLUMN_SIZE];
-    let mut upper = [0u8; COLUMN_SIZE];
-    let n = fresh_part(record, held, c, &mut lower);
-    let m = fresh_part(record, held, c + 1, &mut upper);
-    if !has_part(record, c, &lower, n) {
-        return false;
-    }
-    has_part(record, c + 1, &upper, m)
-}
-
-// The same for all columns.
-fn columns_ok(record: &[u8], held: &[u64]) -> bool
-    requires { TasksHeld «record».now held.now (get_or «record».now running_at 0) }
-    ensures { Judged «record».now (ColumnsOk «record».now (get_or «record».now columns_at 0)) result }
-{
-    let columns = wide(record[COLUMNS_AT]) as usize;
-    let mut c = 0;
-    while c + 1 < columns {
-        if !two_ok(record, held, c) {
+        let entry = read_entry(self.bytes, j);
+        if entry.count > MAX_BLOCKS {
             return false;
         }
-        c += 2;
+        let Ok(task) = Task::read(&self.bytes[entry.from..entry.to]) else {
+            return false;
+        };
+        if !self.zeros(entry.to..ENTRIES_AT + ENTRY_SIZE * (j + 1)) {
+            return false;
+        }
+        let at = Position {
+            column: entry.column,
+            bottom: entry.bottom,
+        };
+        held.mark_task(self.device, task, at)
     }
-    if c == columns {
-        return true;
+
+    // The same for all running entries, up to the first that is not one of a sound record.
+    fn mark_entries(&self, held: &mut HeldCells) -> bool
+        requires { TasksHeld self.now.bytes.now held.old.words 0 }
+        ensures { Judged self.now.bytes.now (TasksHeld self.now.bytes.now held.new.words (get_or self.now.bytes.now running_at 0)) result }
+    {
+        for j in 0..running(self.bytes) {
+            if !self.mark_entry(held, j) {
+                return false;
+            }
+        }
+        true
     }
-    column_ok(record, held, c)
+
+    // Whether column c has this part and this count.
+    fn has(&self, c: usize, listed: &[u8; COLUMN_SIZE], count: usize) -> bool
+        requires { c < max_columns }
+        ensures { IsTrue result ↔ ((part self.now.bytes.now (column_at c) column_size ≡ listed.now) × (count_of self.now.bytes.now c ≡ count)) }
+    {
+        let a = INTERVALS_AT + COLUMN_SIZE * c;
+        let e = a + COLUMN_SIZE;
+        usize::from(self.bytes[COUNTS_AT + c]) == count && same(&self.bytes[a..e], listed)
+    }
+}
+
+impl Marked<'_> {
+    // MODEL 7.3 and 8.3: writes the free intervals of column c into a part of zeros, by its bits, and answers how many they are.
+    fn list(&self, c: usize, part: &mut [u8]) -> usize
+        requires column { c < length self.now.legible.device.kinds.now }
+        requires zeros { part.old ≡ replicate column_size 0 }
+        ensures { PartIs part.new result (intervals (device_of self.now.legible.bytes.now) (book_of self.now.legible.bytes.now) c) }
+    {
+        let device = self.legible.device;
+        let kind = Kind::try_from(device.kinds[c]).unwrap();
+        let bits = ColumnBits {
+            words: self.held.column(c),
+            cells: kind.cells(device.rows),
+            height: kind.height(),
+        };
+        bits.fill(part)
+    }
+
+    // MODEL 9.7: whether column c lists its free intervals.
+    fn column_ok(&self, c: usize) -> bool
+        requires { c < length self.now.legible.device.kinds.now }
+        ensures { IsTrue result ↔ ColumnOk self.now.legible.bytes.now c }
+    {
+        let mut part = [0; COLUMN_SIZE];
+        let count = self.list(c, &mut part);
+        self.legible.has(c, &part, count)
+    }
+
+    // The same for columns c and c + 1. Each part is read some time after it was written: bytes read at once would have to wait for the writes.
+    fn two_ok(&self, c: usize) -> bool
+        requires { c + 1 < length self.now.legible.device.kinds.now }
+        ensures { IsTrue result ↔ (ColumnOk self.now.legible.bytes.now c × ColumnOk self.now.legible.bytes.now (c + 1)) }
+    {
+        let mut lower = [0; COLUMN_SIZE];
+        let mut upper = [0; COLUMN_SIZE];
+        let n = self.list(c, &mut lower);
+        let m = self.list(c + 1, &mut upper);
+        self.legible.has(c, &lower, n) && self.legible.has(c + 1, &upper, m)
+    }
+
+    // The same for all columns.
+    fn columns_ok(&self) -> bool
+        ensures { IsTrue result ↔ ColumnsOk self.now.legible.bytes.now (length self.now.legible.device.kinds.now) }
+    {
+        let columns = self.legible.device.kinds.len();
+        for k in 0..columns / 2 {
+            if !self.two_ok(2 * k) {
+                return false;
+            }
+        }
+        columns % 2 == 0 || self.column_ok(columns - 1)
+    }
 }
 
 // MODEL 9.1: whether bytes of any length are a sound record.
 pub fn sound(record: &[u8]) -> bool
     ensures { result ≡ sound «record».now }
 {
-    if record.len() != RECORD_SIZE {
+    let Some(legible) = Legible::read(record) else {
+        return false;
+    };
+    if !legible.unused_ok() {
         return false;
     }
-    if !says_device(record) {
+    let mut held = HeldCells::new();
+    if !legible.mark_entries(&mut held) {
         return false;
     }
-    if running(record) > MAX_RUNNING {
-        return false;
-    }
-    if !unused_ok(record) {
-        return false;
-    }
-    let mut held = [0u64; ALL_WORDS];
-    if !mark_entries(record, &mut held) {
-        return false;
-    }
-    columns_ok(record, &held)
+    let marked = Marked {
+        legible,
+        held: &held,
+    };
+    marked.columns_ok()
 }

@@ -4,7 +4,7 @@ use Rattle.std.proofs.Common.{sym, ap, ◌∙◌, inl, inr, arith, le-div_iff_mu
 use Rattle.std.proofs.lemmas.Bool.{false≢true, eqb-false}
 use Rattle.std.proofs.Math.Nat.{div-add-mod, lt_of_mul-lt-mul_left, mul-div_cancel_left, mul-div-le, mul-le-mul_right, add-sub_cancel_left}
 use Rattle.runs.specs.Laws.Tests.{lt_or_ge}
-use Rattle.model.specs.Limits.{bytes, reach, rows_at, columns_at, kinds_at, max_columns, max_rows, record_size}
+use Rattle.model.specs.Limits.{bytes, reach, rows_at, columns_at, kinds_at, max_columns, max_kind, max_rows, record_size}
 use Rattle.model.specs.Columns.{Device, columns, kind, cells, top, top_in, cells_in, height, device_ok}
 use Rattle.model.specs.Tasks.{word, Block, blocks, block, well_formed}
 use Rattle.model.specs.Book.{Book, placed, held, block_fits, fits}
@@ -16,6 +16,7 @@ use Rattle.model.proofs.Laws.Fits.{Fitting, fitting_to, fitting_of}
 use Rattle.model.proofs.Laws.Split.{free_to, free_of}
 use Rattle.model.proofs.Laws.Limits.{Limits, limits_to}
 use Rattle.model.proofs.Laws.Kept.{within_new}
+use Rattle.model.proofs.Laws.ReadBack.{get_d_in}
 use Rattle.model.specs.Parts.{splice}
 use Rattle.model.proofs.Laws.Parts.{list_parts, part_splice, part_splice_below, part_splice_above}
 use Rattle.cells.specs.Bits.{cell_bit, RunIn, Marked}
@@ -140,6 +141,9 @@ module _ (d : Device) (ok : device_ok d ≡ true) where
 
   pub few_rows : d.rows ≤ max_rows
   few_rows = limits.rows
+
+  pub kind_low : (c : ℕ) → c < length d.kinds → get_or d.kinds c 0 ≤ max_kind
+  kind_low c q = limits.kinds (get_or d.kinds c 0) (get_d_in d.kinds c 0 q)
 
   pub few_cells : (i : ℕ) → cells d i ≤ max_rows
   unfolding cells cells_in

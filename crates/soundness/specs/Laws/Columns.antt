@@ -1,26 +1,38 @@
 -- Why the columns' pass is right. Assumes nothing.
-use Rattle.std.specs.Prelude.{ℕ, ◌+◌, ◌*◌, ◌<◌, ◌≡◌, Bool, true, false, List, [], get_or, take}
-use Rattle.std.proofs.Common.{sym, ◌∙◌, arith, below_more, take_all}
-use Rattle.std.proofs.Math.Path.{ap}
-use Rattle.std.proofs.lemmas.Bool.{false≢true}
-use Rattle.std.proofs.Math.Nat.{mul-div-le, add-sub_cancel_left}
-use Rattle.std.proofs.Math.ListN.{length}
-use Rattle.model.specs.Limits.{max_columns, column_size, rows_at, columns_at, counts_at, running_at}
-use Rattle.model.specs.Columns.{columns, kind, cells, cells_in, height}
-use Rattle.model.specs.Tasks.{word}
+use Rattle.std.specs.Prelude.{ℕ, ◌+◌, ◌*◌, ◌≤◌, ◌<◌, ◌≡◌, true, List, length, get_or, take, Result, Ok, Err, IsOk}
+use Rattle.std.proofs.Common.{refl, sym, ap, ◌∙◌, arith, below_more, length-take, length-drop, take_all}
+use Rattle.std.proofs.Math.Nat.{mul-div-le}
+use Rattle.model.specs.Limits.{max_columns, max_kind, column_size, columns_at, counts_at, running_at}
+use Rattle.model.specs.Columns.{Device, columns, kind, cells, cells_in, height, device_ok}
+use Rattle.model.specs.Kinds.{number_of, kind_of}
+use Rattle.model.specs.declared.Kind.{Kind}
+use Rattle.model.specs.declared.UnknownKind.{UnknownKind}
+use Rattle.model.proofs.Laws.Kinds.{known_kind, unknown_kind}
 use Rattle.model.specs.Book.{intervals}
-use Rattle.model.specs.Record.{part, column_at, column_part, device_of, book_of}
+use Rattle.model.specs.Record.{part, column_at, device_of, book_of}
 use Rattle.model.specs.Sound.{within, count_of, sound}
-use Rattle.model.proofs.Laws.Bounded.{is_false}
-use Rattle.model.proofs.Laws.Record.{length_column, record_column, record_count}
+use Rattle.model.proofs.Laws.Record.{record_column, record_count}
 use Rattle.model.proofs.Laws.WriteBack.{Bytes}
 use Rattle.model.proofs.Laws.Sound.{columns_said, running_said, sound_record}
-use Rattle.words.specs.Words.{Same}
-use Rattle.cells.specs.Ends.{ColumnBits, PartIs, bit_intervals}
+use Rattle.cells.specs.Ends.{PartIs, bit_intervals}
 use Rattle.cells.specs.Laws.Book.{shown_intervals}
-use Rattle.marks.specs.Marks.{words_of}
-use Rattle.marks.specs.Laws.Marks.{few_columns, few_rows, few_cells, lent_words, lent_length}
-use Rattle.soundness.specs.Soundness.{TasksHeld, ColumnOk, ColumnsOk, HasPart}
+use Rattle.cells.specs.Laws.Writes.{Fillable}
+use Rattle.marks.specs.Marks.{column_words, all_words, words_of}
+use Rattle.marks.specs.Laws.Marks.{few_columns, few_rows, few_cells}
+use Rattle.soundness.specs.Soundness.{TasksHeld, ColumnOk, ColumnsOk}
+
+-- the device that was read of r
+module _ (r : List ℕ) {d : Device} (e : d ≡ device_of r) where
+  pub kinds_said : length d.kinds ≡ columns (device_of r)
+  unfolding columns
+  kinds_said = ap columns e
+
+  pub kinds_counted : length d.kinds ≡ get_or r columns_at 0
+  kinds_counted = kinds_said ∙ columns_said r
+
+  pub kind_said : (c : ℕ) → get_or d.kinds c 0 ≡ kind (device_of r) c
+  unfolding kind
+  kind_said c = ap (λ (d : Device). kind d c) e
 
 module _ (r H : List ℕ) (m : TasksHeld r H (get_or r running_at 0)) where
   all : take (get_or r running_at 0) (book_of r) ≡ book_of r
@@ -29,57 +41,52 @@ module _ (r H : List ℕ) (m : TasksHeld r H (get_or r running_at 0)) where
   pub all_within : within (device_of r) (book_of r) ≡ true
   all_within = rw all at m.limits
 
-  module _ (c : ℕ) (q : c < get_or r columns_at 0) where
-    on : c < columns (device_of r)
-    on = omega (arith, columns_said r)
-
+  module _ (c : ℕ) {d : Device} (e : d ≡ device_of r) (q : c < length d.kinds) where
     runs_are : intervals (device_of r) (book_of r) c ≡ bit_intervals (words_of H c) (cells (device_of r) c) (height (kind (device_of r) c))
-    runs_are = shown_intervals (device_of r) (book_of r) (words_of H) (rw all at m.shown) c on
+    runs_are = shown_intervals (device_of r) (book_of r) (words_of H) (rw all at m.shown) c (omega (arith, kinds_said r e))
 
-    module _ {k n h : ℕ} (e : k ≡ kind (device_of r) c) (f : n ≡ cells_in (word r rows_at) k) (g : h ≡ height k) where
+    module _ (t : Kind) (o : Ok t ≡ kind_of (get_or d.kinds c 0)) {n h : ℕ} (f : n ≡ cells_in d.rows (number_of t)) (g : h ≡ height (number_of t)) where
+      kind_is : number_of t ≡ kind (device_of r) c
+      kind_is = known_kind (get_or d.kinds c 0) (Ok t) t o refl ∙ kind_said r e c
+
       same_cells : n ≡ cells (device_of r) c
-      unfolding cells device_of
-      same_cells = rw e at f
+      unfolding cells
+      same_cells = rw (kind_is, ap (λ (d : Device). d.rows) e) at f
 
-      pub bits_of : {p : List ℕ} → p ≡ column_part [] → ColumnBits (lent_words H c) n h p
-      unfolding cells_in
-      bits_of z =
-          let l = few_columns r m.bitmap.device in
-          let w = lent_length H c m.bitmap.whole (omega arith) in
-          let b = few_cells r m.bitmap.device c in
-          let u = mul-div-le (2 * word r rows_at) (height k) in
+      same_height : h ≡ height (kind (device_of r) c)
+      same_height = rw kind_is at g
+
+      pub fillable : {w : List ℕ} → device_ok d ≡ true → length w ≡ column_words → Fillable w n h
+      unfolding cells cells_in
+      fillable ok l =
+          let m = rw e at ok in
+          let b = few_cells (device_of r) m c in
+          let u = mul-div-le (2 * (device_of r).rows) (height (kind (device_of r) c)) in
           record {
-            size = ap length z ∙ length_column [];
             few = omega (arith, same_cells);
             room = omega (arith, same_cells);
             short = omega arith;
-            small = rw (f, g) (omega (arith, few_rows r m.bitmap.device));
+            small = rw (same_cells, same_height) (omega (arith, few_rows (device_of r) m));
           }
 
-      pub part_is : {p : List ℕ} {i : ℕ} → PartIs p i (bit_intervals (lent_words H c) n h) → PartIs p i (intervals (device_of r) (book_of r) c)
-      unfolding part
-      part_is l = let s : h ≡ height (kind (device_of r) c) = rw e at g in rw (runs_are, ← s, ← same_cells) (rw add-sub_cancel_left at l)
+      pub part_is : {p : List ℕ} {i : ℕ} → PartIs p i (bit_intervals (words_of H c) n h) → PartIs p i (intervals (device_of r) (book_of r) c)
+      part_is l = rw (runs_are, ← same_height, ← same_cells) l
 
--- ---- a part compared with what was written
+-- a column of a sound record lists its free intervals
+pub sound_column : (r : List ℕ) → Bytes r → sound r ≡ true → (c : ℕ) → c < max_columns → ColumnOk r c
+sound_column r B s c q =
+    let d = device_of r in
+    let b = book_of r in
+    let is = sound_record r B s in
+    record {
+      bytes_are = ap (λ (l : List ℕ). part l (column_at c) column_size) is ∙ record_column d b c q;
+      count_is = ap (λ (l : List ℕ). get_or l (counts_at + c) 0) is ∙ record_count d b c q;
+    }
 
-module _ (r : List ℕ) (c : ℕ) {f : List ℕ} {n : ℕ} where
-  pub count_differs : (count_of r c ≡ n → ⊥) → HasPart r c f n false
-  count_differs h = record { bytes_are = λ e. absurd (false≢true e); count_is = λ e. absurd (false≢true e); otherwise = λ e p q. h q }
-
-  pub bytes_tell : {ok : Bool} → count_of r c ≡ n → Same (part r (column_at c) column_size) f ok → HasPart r c f n ok
-  bytes_tell e s = record { bytes_are = s.yes; count_is = λ t. e; otherwise = λ t p q. s.no t p }
-
-  module _ (w : PartIs f n (intervals (device_of r) (book_of r) c)) {ok : Bool} (x : HasPart r c f n ok) where
-    pub column_right : ok ≡ true → ColumnOk r c
-    column_right t = record { bytes_are = x.bytes_are t ∙ w.bytes_are; count_is = x.count_is t ∙ w.count_is }
-
-    pub column_refused : Bytes r → c < max_columns → ok ≡ false → sound r ≡ false
-    column_refused B q e = is_false (sound r) (λ s.
-        let d = device_of r in
-        let b = book_of r in
-        let is = sound_record r B s in
-        x.otherwise e (ap (λ (l : List ℕ). part l (column_at c) column_size) is ∙ record_column d b c q ∙ sym w.bytes_are)
-        (ap (λ (l : List ℕ). get_or l (counts_at + c) 0) is ∙ record_count d b c q ∙ sym w.count_is))
+-- the number of a kind is read as one
+pub kind_read : (n : ℕ) {k : Result Kind UnknownKind} → k ≡ kind_of n → n ≤ max_kind → IsOk k
+kind_read n {k = Ok t} e q = refl
+kind_read n {k = Err u} e q = absurd (omega (arith, (unknown_kind n (Err u) u e refl).1))
 
 -- two columns more
 pub two_more : (r : List ℕ) (c : ℕ) → ColumnsOk r c → ColumnOk r c × ColumnOk r (c + 1) → ColumnsOk r (c + 2)

@@ -1,6 +1,6 @@
 -- Why the entries' pass is right: in a sound record every running task passes each test, and one that passes is within the limits. Assumes nothing.
 use Prim.Native.Nat.{ℕ, ◌+◌, ◌*◌, ◌%◌, ◌≤◌, ◌<◌}
-use Rattle.std.specs.Prelude.{◌≡◌, Bool, false, ◌||◌, List, length, take}
+use Rattle.std.specs.Prelude.{◌≡◌, Bool, false, ◌||◌, List, length, take, ltb, Err, IsErrOf}
 use Rattle.std.proofs.Math.Path.{refl, sym, ap}
 use Rattle.std.proofs.Common.{◌∙◌, add-one, le-leb, eq-eqb, ne_eqb, take-suc, length-take-le}
 use Rattle.std.proofs.Math.Bool.{true, or_comm}
@@ -15,6 +15,8 @@ use Rattle.model.specs.Sound.{block_count, sound}
 use Rattle.model.specs.Calls.{insert}
 use Rattle.model.specs.Bounded.{In}
 use Rattle.model.specs.InPlace.{no_entry}
+use Rattle.runs.specs.Laws.Tests.{tests}
+use Rattle.model.proofs.Laws.Tasks.{sized_to}
 use Rattle.model.proofs.Laws.Bounded.{clash, is_false}
 use Rattle.model.proofs.Laws.Limits.{Entry, limits_to}
 use Rattle.model.proofs.Laws.Split.{fits_split, held_insert}
@@ -23,44 +25,41 @@ use Rattle.model.proofs.Laws.Clauses.{clauses_to}
 use Rattle.model.proofs.Laws.WriteBack.{Bytes}
 use Rattle.model.proofs.Laws.ReadBack.{get_d_in}
 use Rattle.model.proofs.Laws.Sound.{sound_within}
-use Rattle.marks.specs.Marks.{all_words, TaskMarked}
+use Rattle.task.specs.declared.TaskFault.{TaskFault}
+use Rattle.task.specs.declared.TaskFault.TheVariants.{Length, Form}
+use Rattle.marks.specs.Marks.{TaskMarked}
 use Rattle.record.specs.Entries.{entry_of, blocks_of, bytes_entry, HasEntry}
 use Rattle.record.specs.Laws.Said.{number_said, in_book, entry_by_bytes, blocks_length}
 use Rattle.record.specs.Laws.Before.{prior_above, insert_last, fits_among}
-use Rattle.record.specs.Rebuild.{Passes}
+use Rattle.record.specs.Rebuild.{prior, Passes}
+use Rattle.record.specs.Laws.Rebuild.{count_sound, blocks_sized, sound_fits}
 use Rattle.soundness.specs.Soundness.{RestZero, TasksHeld, Judged}
-
-sized_of : (t : List ℕ) (n : ℕ) → length t ≡ block_size * n → 1 ≤ n → n ≤ max_blocks → sized t ≡ true
-unfolding sized
-sized_of t n e one most =
-    rw (ne_eqb (length t) 0 (λ z. omega arith), le-leb (length t) (block_size * max_blocks) (omega arith)) (eq-eqb (length t % block_size) 0 (omega arith))
 
 pub small_word : (r : List ℕ) (i : ℕ) → Bytes r → word r i < words
 unfolding word
 small_word r i B = omega (arith, B i, B (i + 1))
 
--- ---- in a sound record entry j passes the tests
+-- ---- where a test fails, the record is not sound
+
+-- bytes that are a task's are read as one
+pub no_fault : {T : Type 0} (t : List ℕ) (f : TaskFault) → sized t ≡ true → well_formed t ≡ true → (IsErrOf {T = T} (Err f) Length → sized t ≡ false)
+    → (IsErrOf {T = T} (Err f) Form → (sized t ≡ true) × (well_formed t ≡ false)) → ⊥
+no_fault t Length z w short form = clash z (short refl)
+no_fault t Form z w short form = clash w (form refl).1
 
 module _ (r : List ℕ) (j : ℕ) (x : HasEntry r j) (s : sound r ≡ true) where
-  count_sound : (1 ≤ block_count r j) × (block_count r j ≤ max_blocks)
-  count_sound = let y = clauses_to r s in (y.some_blocks j x.runs, y.few_blocks j x.runs)
+  pub sound_sized : sized (blocks_of r j) ≡ true
+  sound_sized = let (one, few) = count_sound r j x s in blocks_sized r j x one few
 
-  in_limits : Entry (device_of r) (entry_of r j)
-  in_limits = (limits_to (device_of r) (book_of r) (sound_within r s)).entries (entry_of r j) (get_d_in (book_of r) j no_entry (in_book r j x))
-
-  sound_formed : well_formed (blocks_of r j) ≡ true
-  sound_formed = rw (entry_by_bytes r j x count_sound.1) at in_limits.well_formed
-
-  sound_fits : (let e = bytes_entry r j in fits (device_of r) (take j (book_of r)) e.task e.column e.bottom) ≡ true
-  sound_fits = rw (entry_by_bytes r j x count_sound.1) at (fits_among (device_of r) (book_of r) j (in_book r j x) (sound_within r s))
-
--- so where a test fails, the record is not sound
 module _ (r : List ℕ) (j : ℕ) (x : HasEntry r j) (few : block_count r j ≤ max_blocks) where
   is : entry_of r j ≡ bytes_entry r j
   is = entry_by_bytes r j x few
 
-  pub refused_form : (ok : Bool) → ok ≡ well_formed (blocks_of r j) → ok ≡ false → sound r ≡ false
-  refused_form ok e f = is_false (sound r) (λ s. clash (sound_formed r j x s) (sym e ∙ f))
+  -- an entry that rises and whose blocks are a task's
+  pub passes_read : (ok : Bool) → ok ≡ ltb (prior 0 (book_of r) j) (entry_of r j).number → ok ≡ true → sized (blocks_of r j) ≡ true → Passes r j
+  passes_read ok e t z =
+      let h = sym e ∙ t in
+      record { rises = omega tests; some_blocks = omega (arith, blocks_length r j x few, (sized_to (blocks_of r j) z).some_blocks, (sized_to (blocks_of r j) z).whole); few_blocks = few }
 
   pub refused_fit : (ok : Bool) → ok ≡ (let e = bytes_entry r j in fits (device_of r) (take j (book_of r)) e.task e.column e.bottom) → ok ≡ false → sound r ≡ false
   refused_fit ok e f = is_false (sound r) (λ s. clash (sound_fits r j x s) (sym e ∙ f))
@@ -87,21 +86,17 @@ module _ (r : List ℕ) (j : ℕ) (x : HasEntry r j) (few : block_count r j ≤ 
     small : y.number < words
     small = omega (arith, number_said r j x.runs, small_word r (entry_at j) B)
 
-    pub block_sized : sized (blocks_of r j) ≡ true
-    block_sized = sized_of (blocks_of r j) (block_count r j) (blocks_length r j x few) t.some_blocks few
-
-    pub held_next : (U : List ℕ) → well_formed (blocks_of r j) ≡ true → length U ≡ all_words → RestZero r j
-        → (let e = bytes_entry r j in TaskMarked r H e.task e.column e.bottom U true) → TasksHeld r U (j + 1)
+    pub held_next : (U : List ℕ) → well_formed (blocks_of r j) ≡ true → RestZero r j
+        → (let e = bytes_entry r j in TaskMarked (device_of r) H e.task e.column e.bottom U true) → TasksHeld r U (j + 1)
     unfolding covered placed
-    held_next U w l z k =
+    held_next U w z k =
         let f : fits d (take j b) y.task y.column y.bottom ≡ true = rw is (sym (k.answers (take j b) m.shown)) in
         record {
-          bitmap = record { size = m.bitmap.size; device = m.bitmap.device; whole = l };
           limits = rw more at (insert_within d (take j b) m.limits y (rw (length-take-le j b (omega (arith, in_book r j x))) (omega (arith, x.few, x.runs)))
               (record {
                 number_one = omega (arith, t.rises);
                 number = omega (arith, small);
-                sized = rw is block_sized;
+                sized = rw is (blocks_sized r j x t.some_blocks few);
                 well_formed = rw is w;
                 fits = ((fits_split d (take j b) y.task y.column y.bottom).0 f).0;
               })
@@ -116,9 +111,9 @@ module _ (r : List ℕ) (j : ℕ) (x : HasEntry r j) (few : block_count r j ≤ 
           few_blocks = below_more _ j m.few_blocks few;
         }
 
-    pub step_entry : (U : List ℕ) (ok : Bool) → well_formed (blocks_of r j) ≡ true → length U ≡ all_words → RestZero r j
-        → (let e = bytes_entry r j in TaskMarked r H e.task e.column e.bottom U ok) → Judged r (TasksHeld r U (j + 1)) ok
-    step_entry U ok w l z k = record {
-      holds = λ e. held_next U w l z (rw e at k);
+    pub step_entry : (U : List ℕ) (ok : Bool) → well_formed (blocks_of r j) ≡ true → RestZero r j
+        → (let e = bytes_entry r j in TaskMarked (device_of r) H e.task e.column e.bottom U ok) → Judged r (TasksHeld r U (j + 1)) ok
+    step_entry U ok w z k = record {
+      holds = λ e. held_next U w z (rw e at k);
       refused = λ e. refused_fit ok (k.answers (take j b) m.shown) e;
     }

@@ -14,7 +14,7 @@ use Rattle.model.specs.Tasks.{word}
 use Rattle.model.specs.Book.{held, free, intervals}
 use Rattle.model.specs.Record.{part, column_at, entry_at, listed_intervals, device_of, book_of}
 use Rattle.model.specs.Sound.{count_of, used, sound}
-use Rattle.model.proofs.Laws.Bounded.{is_false, clash}
+use Rattle.model.proofs.Laws.Bounded.{is_false, clash, same_test}
 use Rattle.model.proofs.Laws.Columns.{top_le}
 use Rattle.model.proofs.Laws.Parts.{part_byte, list_parts}
 use Rattle.model.proofs.Laws.Limits.{limits_to, within_device}
@@ -22,6 +22,8 @@ use Rattle.model.proofs.Laws.Cells.{few_intervals}
 use Rattle.model.proofs.Laws.Kept.{within_new}
 use Rattle.model.proofs.Laws.Clauses.{Zero, clauses_to, clauses_of}
 use Rattle.model.proofs.Laws.Sound.{columns_said, running_said, sound_length, sound_within}
+use Rattle.model.proofs.Laws.WriteBack.{Bytes}
+use Rattle.std.specs.Bool.{Decides}
 use Rattle.column.specs.Laws.Part.{encodes, free_small}
 use Rattle.column.specs.Laws.Lent.{listed_lent}
 use Rattle.cells.specs.Bits.{word_bits, cell_bit, digit}
@@ -30,17 +32,11 @@ use Rattle.cells.specs.Laws.Bits.{digit_zero}
 use Rattle.cells.specs.Laws.Coded.{column_byte, length_coded, ends_length}
 use Rattle.marks.specs.Marks.{column_words, all_words}
 use Rattle.marks.specs.Laws.Marks.{few_columns}
-use Rattle.soundness.specs.Soundness.{TasksHeld, ColumnsOk, Unused, Legible, Judged}
-use Rattle.soundness.specs.Laws.Columns.{all_within}
+use Rattle.soundness.specs.Soundness.{TasksHeld, ColumnsOk, Unused}
+use Rattle.soundness.specs.Laws.Unused.{sound_unused}
+use Rattle.soundness.specs.Laws.Columns.{kinds_counted, all_within, sound_column}
 
 -- ---- the length, the device and the number of tasks
-
--- the device that r says, by its kind bytes
-pub device_said : (r : List ℕ) (n k : ℕ) → length r ≡ record_size → n ≡ word r rows_at → k ≡ get_or r columns_at 0 → k < bytes
-    → record { rows = n; kinds = take (kinds_at + k - kinds_at) (drop kinds_at r) } ≡ device_of r
-unfolding device_of part
-device_said r n k l p q h =
-    rw (add-sub_cancel_left, p, ← q) (ap (λ (ks : List ℕ). record { rows = word r rows_at; kinds = ks }) (sym (list_parts r kinds_at k 0 (omega arith))))
 
 module _ (r : List ℕ) where
   pub refused_length : (length r ≡ record_size → ⊥) → false ≡ sound r
@@ -52,9 +48,15 @@ module _ (r : List ℕ) where
   pub refused_running : max_running < get_or r running_at 0 → false ≡ sound r
   refused_running h = sym (is_false (sound r) (λ s. omega (arith, (clauses_to r s).few_running)))
 
+  pub refused_unused : ¬ Unused r → false ≡ sound r
+  refused_unused h = sym (is_false (sound r) (λ s. h (sound_unused r s)))
+
 -- ---- all of it together
 
-module _ (r H : List ℕ) (m : TasksHeld r H (get_or r running_at 0)) (u : Unused r) (l : ColumnsOk r (get_or r columns_at 0)) where
+module _ (r H : List ℕ) (n : length r ≡ record_size) (ok : device_ok (device_of r) ≡ true) (m : TasksHeld r H (get_or r running_at 0)) (u : Unused r) (l : ColumnsOk r (get_or r columns_at 0)) where
+  kinds_are : length (device_of r).kinds ≡ get_or r columns_at 0
+  kinds_are = kinds_counted r refl
+
   count_few : (c : ℕ) → c < max_columns → (c < get_or r columns_at 0) ⊎ (get_or r columns_at 0 ≤ c) → count_of r c ≤ max_intervals
   count_few c q (inl p) = omega (arith, (l c p).count_is, few_intervals (device_of r) (book_of r) (all_within r H m) c)
   count_few c q (inr p) = omega (arith, u.counts (counts_at + c) (omega arith) (omega arith))
@@ -74,9 +76,9 @@ module _ (r H : List ℕ) (m : TasksHeld r H (get_or r running_at 0)) (u : Unuse
       let d = device_of r in
       let b = book_of r in
       let x = l c p in
-      let few = count_few c (omega (arith, few_columns r m.bitmap.device)) (inl p) in
+      let few = count_few c (omega (arith, few_columns (device_of r) ok, kinds_are)) (inl p) in
       let g = intervals_free (free d b c) (top d c) in
-      sym (listed_lent r c m.bitmap.size (omega (arith, few_columns r m.bitmap.device)) few)
+      sym (listed_lent r c n (omega (arith, few_columns (device_of r) ok, kinds_are)) few)
       ∙ encodes (record {
         bytes_are = rw add-sub_cancel_left x.bytes_are;
         count_is = x.count_is;
@@ -92,7 +94,7 @@ module _ (r H : List ℕ) (m : TasksHeld r H (get_or r running_at 0)) (u : Unuse
   -- THEOREM: then the record is sound
   pub all_sound : sound r ≡ true
   all_sound = clauses_of r (record {
-    size = m.bitmap.size;
+    size = n;
     few_running = omega (arith, running_said r, (limits_to (device_of r) (book_of r) (all_within r H m)).few);
     some_blocks = m.some_blocks;
     few_blocks = m.few_blocks;
@@ -106,9 +108,10 @@ module _ (r H : List ℕ) (m : TasksHeld r H (get_or r running_at 0)) (u : Unuse
   })
 
 -- THEOREM: where entries and unused bytes are right, the columns' answer is the record's
-pub judged_sound : (r H : List ℕ) → TasksHeld r H (get_or r running_at 0) → Unused r → (ok : Bool) → Judged r (ColumnsOk r (get_or r columns_at 0)) ok → ok ≡ sound r
-judged_sound r H m u true j = sym (all_sound r H m u (j.holds refl))
-judged_sound r H m u false j = sym (j.refused refl)
+pub judged_sound : (r H : List ℕ) → Bytes r → length r ≡ record_size → device_ok (device_of r) ≡ true → TasksHeld r H (get_or r running_at 0) → Unused r
+    → (ok : Bool) → Decides ok (ColumnsOk r (get_or r columns_at 0)) → ok ≡ sound r
+judged_sound r H B n k m u ok j =
+    same_test ok (sound r) (λ t. all_sound r H n k m u (j.0 t)) (λ s. j.1 (λ c q. sound_column r B s c (omega (arith, few_columns (device_of r) k, kinds_counted r refl))))
 
 -- a word of words that are all 0
 get_d_zeros : (n x : ℕ) → ◌≡◌ {A = ℕ} (get_or (replicate n 0) x 0) 0
@@ -126,11 +129,10 @@ zero_word n a x = go (lt_or_ge x column_words)
     go (inr q) = get_or-eq_default (take column_words (drop a (replicate n 0))) 0 (rw length-take (omega arith))
 
 -- nothing marked yet
-pub held_none : (r H : List ℕ) → Legible r → H ≡ replicate all_words 0 → TasksHeld r H 0
+pub held_none : (r H : List ℕ) → device_ok (device_of r) ≡ true → H ≡ replicate all_words 0 → TasksHeld r H 0
 unfolding cell_bit part held any_in
-held_none r H l h = record {
-  bitmap = record { size = l.size; device = l.device; whole = ap length h };
-  limits = within_new (device_of r) l.device;
+held_none r H ok h = record {
+  limits = within_new (device_of r) ok;
   shown = λ c k i q n o.
       rw h (ap (λ (x : ℕ). digit x (k % word_bits)) (zero_word all_words (column_words * c) (k / word_bits)) ∙ digit_zero (k % word_bits));
   rests = λ i q. absurd (omega arith);

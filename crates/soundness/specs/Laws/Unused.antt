@@ -1,33 +1,35 @@
 -- MODEL 9.8: the unused bytes of a record, tested part by part. Assumes nothing.
 use Rattle.std.specs.Prelude.{ℕ, ◌+◌, ◌-◌, ◌*◌, ◌/◌, ◌≤◌, ◌<◌, ◌≡◌, ◌⊎◌, Bool, true, false, List, get_or, take, drop}
 use Rattle.std.proofs.Common.{sym, ◌∙◌, inl, inr, arith, lt-ltb, le-ltb, length-take, get_or-take, get_or-drop}
+use Rattle.std.specs.Bool.{Decides}
 use Rattle.std.proofs.Math.ListN.{get_or-eq_default}
 use Rattle.runs.specs.Laws.Tests.{lt_or_ge}
 use Rattle.model.specs.Limits.{block_size, record_size, columns_at, running_at, kinds_at, counts_at, intervals_at, column_size, entries_at, blocks_at, entry_size}
 use Rattle.model.specs.Record.{column_at, entry_at}
 use Rattle.model.specs.Sound.{block_count, count_of, used, sound}
-use Rattle.model.proofs.Laws.Bounded.{is_false}
+use Rattle.model.proofs.Laws.Bounded.{true_or_false}
 use Rattle.model.proofs.Laws.Clauses.{Zero, clauses_to}
 use Rattle.words.specs.Words.{AllZero}
 use Rattle.record.specs.Entries.{HasEntry}
-use Rattle.soundness.specs.Laws.Judged.{judged_no}
-use Rattle.soundness.specs.Soundness.{RestZero, Unused, Judged}
+use Rattle.soundness.specs.Soundness.{RestZero, Unused}
 
 -- ---- bytes from n up to m, as they are lent
 
-module _ (r : List ℕ) (n m : ℕ) {ok : Bool} (z : AllZero (take (m - n) (drop n r)) ok) where
-  pub zero_to : ok ≡ true → Zero r n m
-  zero_to f i p q =
-      let e : n + (i - n) ≡ i = omega arith in
-      rw e at (sym (get_or-drop n r (i - n) 0) ∙ sym (get_or-take (m - n) (drop n r) (i - n) 0 (omega arith)) ∙ z.yes f (i - n))
+pub zeros_decided : (r : List ℕ) (n m : ℕ) (ok : Bool) → AllZero (take (m - n) (drop n r)) ok → Decides ok (Zero r n m)
+zeros_decided r n m ok z = (to, λ k. of k (true_or_false ok))
+  where
+    to : ok ≡ true → Zero r n m
+    to f i p q =
+        let e : n + (i - n) ≡ i = omega arith in
+        rw e at (sym (get_or-drop n r (i - n) 0) ∙ sym (get_or-take (m - n) (drop n r) (i - n) 0 (omega arith)) ∙ z.yes f (i - n))
 
-  -- where a sound record has zeros there, and r has not
-  pub zero_not : ok ≡ false → (sound r ≡ true → Zero r n m) → sound r ≡ false
-  zero_not f h = is_false (sound r) (λ s. z.no f (λ i. go (h s) i (lt_or_ge i (m - n))))
-    where
-      go : Zero r n m → (i : ℕ) → (i < m - n) ⊎ (m - n ≤ i) → get_or (take (m - n) (drop n r)) i 0 ≡ 0
-      go k i (inl q) = get_or-take (m - n) (drop n r) i 0 q ∙ get_or-drop n r i 0 ∙ k (n + i) (omega arith) (omega arith)
-      go k i (inr q) = get_or-eq_default (take (m - n) (drop n r)) 0 (rw length-take (omega arith))
+    go : Zero r n m → (i : ℕ) → (i < m - n) ⊎ (m - n ≤ i) → get_or (take (m - n) (drop n r)) i 0 ≡ 0
+    go k i (inl q) = get_or-take (m - n) (drop n r) i 0 q ∙ get_or-drop n r i 0 ∙ k (n + i) (omega arith) (omega arith)
+    go k i (inr q) = get_or-eq_default (take (m - n) (drop n r)) 0 (rw length-take (omega arith))
+
+    of : Zero r n m → (ok ≡ true) ⊎ (ok ≡ false) → ok ≡ true
+    of k (inl t) = t
+    of k (inr f) = absurd (z.no f (λ i. go k i (lt_or_ge i (m - n))))
 
 -- ---- a sound record's unused bytes
 
@@ -55,23 +57,8 @@ module _ (r : List ℕ) (s : sound r ≡ true) where
   pub sound_unused : Unused r
   sound_unused = record { kinds = kinds_unused; counts = counts_unused; parts = parts_unused; entries = entries_unused }
 
-  rest_unused : (j : ℕ) → HasEntry r j → RestZero r j
+  pub rest_unused : (j : ℕ) → HasEntry r j → RestZero r j
   unfolding used
   rest_unused j x i p q =
       let h = rw (lt-ltb j (get_or r running_at 0) x.runs) at ((clauses_to r s).no_block j (omega (arith, x.few, x.runs))) in
       h i (omega arith) q
-
--- ---- the tests
-
-module _ (r : List ℕ) where
-  -- one that fails
-  pub unused_refused : (n m : ℕ) {ok : Bool} → AllZero (take (m - n) (drop n r)) ok → ok ≡ false → (Unused r → Zero r n m) → Judged r (Unused r) false
-  unused_refused n m z f h = judged_no (zero_not r n m z f (λ s. h (sound_unused r s)))
-
-  -- the unused bytes of entry j, which begin at n
-  module _ (j n : ℕ) (e : n ≡ entry_at j + blocks_at + block_size * block_count r j) {ok : Bool} (z : AllZero (take (entry_at j + entry_size - n) (drop n r)) ok) where
-    pub rest_zero : ok ≡ true → RestZero r j
-    rest_zero t = rw e at (zero_to r n (entry_at j + entry_size) z t)
-
-    pub rest_refused : HasEntry r j → ok ≡ false → sound r ≡ false
-    rest_refused x f = zero_not r n (entry_at j + entry_size) z f (λ s. rw e (rest_unused r s j x))

@@ -4,6 +4,6 @@ use Rattle.std.proofs.Math.Nat.{add-sub_cancel_left}
 use Rattle.model.specs.Record.{part}
 use Rattle.marks.proofs.HeldCells.column.Goals as goal
 
-pub returns : goal.returns
+pub returns-clause-words : goal.returns-clause-words
 unfolding part
-returns c = rw add-sub_cancel_left
+returns-clause-words c = rw add-sub_cancel_left
