@@ -24,6 +24,7 @@ pub struct ColumnBits<'a> {
 }
 
 // The lowest n bits.
+#[tactic(auto, using(crate::specs::Laws::Marks::low_all, crate::specs::Laws::Marks::low_power, crate::specs::Laws::Marks::low_some))]
 fn low(n: u32) -> u64
     ensures { Shows result (λ k. ltb k n) 0 }
 {
@@ -34,6 +35,7 @@ fn low(n: u32) -> u64
 }
 
 // The bits of the cells of a run, in the word whose first bit is cell `base`.
+#[tactic(auto, using(crate::specs::Laws::Marks::span_shows))]
 fn span(base: u32, run: &Range<u32>) -> u64
     ensures { Shows result (between run.now.start run.now.end) base }
 {
@@ -41,6 +43,7 @@ fn span(base: u32, run: &Range<u32>) -> u64
 }
 
 // Marks the cells of a run, word by word, and says whether none of them was held.
+#[tactic(auto, using(crate::specs::Laws::Marks::marking_start, crate::specs::Laws::Marks::marking_next, crate::specs::Laws::Marks::marking_end))]
 fn mark_words(words: &mut [u64], run: Range<u32>) -> bool
     requires { RunIn words.old run.start run.end }
     ensures { Marked words.old run.start run.end words.new result }
@@ -73,6 +76,7 @@ pub fn mark(words: &mut [u64], run: Range<u32>) -> bool
 }
 
 // The bits at which free and not free change; the carry is the bit below the word.
+#[tactic(auto, using(crate::specs::Laws::Marks::change_shows))]
 fn change_word(free: u64, carry: u64) -> u64
     requires { carry < 2 }
     ensures { (f : ℕ → Bool) (a : ℕ) → Shows free f a → is_set carry ≡ one_below f a → Shows result (change f) a }
@@ -81,6 +85,7 @@ fn change_word(free: u64, carry: u64) -> u64
 }
 
 // The highest bit of a word, which is the bit below the next.
+#[tactic(auto, using(crate::specs::Laws::Marks::carry_small, crate::specs::Laws::Marks::carry_shows))]
 fn top_bit(word: u64) -> u64
     ensures { (result < 2) × ((f : ℕ → Bool) (a : ℕ) → Shows word f a → is_set result ≡ one_below f (a + word_bits)) }
 {
@@ -104,6 +109,7 @@ fn write_ends(part: &mut [u8], from: usize, word: u64, base: u32, height: u32) -
 
 impl ColumnBits<'_> {
     // The bits of the free cells in word q. There is none behind the last word.
+    #[tactic(auto, using(crate::specs::Laws::Marks::free_shows, crate::specs::Laws::Marks::free_none))]
     fn free(self, q: usize) -> u64
         requires { q ≤ length self.words.now }
         ensures { Shows result (free_below self.entry.words.now self.entry.cells) (word_bits * q) }

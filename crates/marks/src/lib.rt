@@ -35,6 +35,7 @@ pub struct HeldCells {
 
 impl<'a> Device<'a> {
     // MODEL 8.7: what the bytes of a record say, be it a device or not.
+    #[tactic(auto, using(crate::specs::Laws::Marks::device_said))]
     pub fn said(record: &'a [u8]) -> Device<'a>
         requires { length «record».now ≡ record_size }
         ensures { as_device result ≡ device_of «record».now }
@@ -58,6 +59,7 @@ impl HeldCells {
     }
 
     // The words of column c.
+    #[tactic(auto, unfolding(model::specs::Record::part))]
     pub fn column(&self, c: usize) -> &[u64]
         requires { c < max_columns }
         ensures words { result.now ≡ words_of self.now.words c }
@@ -94,6 +96,7 @@ impl HeldCells {
     }
 
     // Marks the blocks of a task that is moved to a position, up to the first that does not fit, and says whether all fit.
+    #[tactic(auto, using(crate::specs::Laws::Marks::blocks_start, crate::specs::Laws::Marks::blocks_refused, crate::specs::Laws::Marks::blocks_next, crate::specs::Laws::Marks::blocks_end, task::specs::Laws::Blocks::same_seen, model::proofs::Laws::Tasks::solid_block))]
     pub fn mark_task(&mut self, device: Device, task: Task, at: Position) -> bool
         requires device { device_ok (as_device device) ≡ true }
         requires position { EntryPosition at.column at.bottom }

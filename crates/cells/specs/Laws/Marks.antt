@@ -1,6 +1,6 @@
 -- Words, bit by bit: masks, the free cells, the changes, and a run that is marked. Assumes nothing.
 use Rattle.std.specs.Prelude.{ℕ, zero, suc, ◌+◌, ◌-◌, ◌*◌, ◌/◌, ◌%◌, ◌^◌, ◌≤◌, ◌<◌, ◌≡◌, refl, ◌⊎◌, Bool, true, false, not, ◌&&◌, ◌||◌, List, leb, ltb, eqb, length, get_or, set}
-use Rattle.std.proofs.Common.{sym, ap, ap₂, ◌∙◌, inl, inr, arith, zero-add, add-zero, get_or-set_same, get_or-set_other, shl_exact, lt-ltb, le-ltb, le-leb, eqb-true}
+use Rattle.std.proofs.Common.{sym, ap, ap₂, ◌∙◌, inl, inr, arith, zero-add, add-zero, add-one, get_or-set_same, get_or-set_other, shl_exact, lt-ltb, le-ltb, le-leb, eqb-true}
 use Rattle.std.proofs.Math.Bool.{and_comm, or-false, and-false, and-true}
 use Rattle.std.proofs.Math.Decide.{ℕ_discrete}
 use Rattle.std.specs.Int.Bits.{bit_and, bit_or, bit_xor}
@@ -156,13 +156,13 @@ module _ (ws : List ℕ) (a b : ℕ) (out : List ℕ) (n hit run : ℕ) (m : Run
       other : ¬ (k / word_bits ≡ n) → cell_bit next k ≡ cell_bit out k
       other ne = unfold cell_bit in (ap (λ (x : ℕ). digit x (k % word_bits)) (get_or-set_other out n (k / word_bits) (bit_or (get_or out n 0) run) 0 ne))
 
-  pub marking_next : n < length out → get_or out n 0 < 2 ^ word_bits → RunMarking ws a b next (suc n) (bit_or hit (bit_and (get_or out n 0) run))
-  marking_next h w = record {
+  pub marking_next : n < length out → get_or out n 0 < 2 ^ word_bits → RunMarking ws a b next (n + 1) (bit_or hit (bit_and (get_or out n 0) run))
+  marking_next h w = rw add-one (record {
     bits = bits_next h;
     clear = λ e k p q l. let (e₁, e₂) = or_none hit (bit_and (get_or out n 0) run) e in go e₁ e₂ k p q l (lt_or_ge k (word_bits * n));
     none = λ f. or_zero hit (bit_and (get_or out n 0) run) (m.none f)
         (digits_none word_bits (bit_and (get_or out n 0) run) (omega (arith, and_le_l (get_or out n 0) run)) (λ k q. here k q ∙ off f (word_bits * n + k) (true_or_false (between a b (word_bits * n + k)))));
-  }
+  })
     where
       go : hit ≡ 0 → bit_and (get_or out n 0) run ≡ 0 → (k : ℕ) → a ≤ k → k < b → k < word_bits * suc n → (k < word_bits * n) ⊎ (word_bits * n ≤ k) → cell_bit ws k ≡ false
       go e₁ e₂ k p q l (inl i) = m.clear e₁ k p q i
@@ -193,4 +193,4 @@ pub mark_one : (ws : List ℕ) (a b run : ℕ) → b ≤ word_bits * (a / word_b
 mark_one ws a b run l q w s =
     let n = a / word_bits in
     let m = marking_next ws a b ws n 0 run (marking_start ws a b n (omega arith)) s q w in
-    marking_end ws a b (set ws n (bit_or (get_or ws n 0) run)) (suc n) (bit_and (get_or ws n 0) run) (omega arith) m _ (eqb-true (bit_and (get_or ws n 0) run) 0) (eqb-false (bit_and (get_or ws n 0) run) 0)
+    marking_end ws a b (set ws n (bit_or (get_or ws n 0) run)) (n + 1) (bit_and (get_or ws n 0) run) (omega arith) m _ (eqb-true (bit_and (get_or ws n 0) run) 0) (eqb-false (bit_and (get_or ws n 0) run) 0)
