@@ -3,6 +3,5 @@ pub mod Part
 pub mod Lent
 pub mod Reading
 pub mod Writing
-pub mod Holding
 pub mod Held
 pub mod Reaching

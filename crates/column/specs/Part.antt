@@ -6,8 +6,6 @@ use Rattle.model.specs.Limits.{max_intervals, column_size, interval_size, words}
 use Rattle.model.specs.Tasks.{word}
 use Rattle.model.specs.Record.{column_part}
 use Rattle.column.specs.declared.Interval.{Interval as Read}
-use Rattle.column.specs.declared.Held.{Held}
-use Rattle.column.specs.declared.Held.TheVariants.{In, Nowhere}
 
 -- ---- reading
 
@@ -91,11 +89,6 @@ pub record Absorbed (o : List ℕ) (n : ℕ) (c x : Read) (q : List ℕ) (m : �
   pub short : Short r
 
 -- ---- the search
-
--- MODEL 11.1: the interval of a list in which all half rows from b up to t lie, the first if there are several
-unfoldable pub holding : ℕ → ℕ → List Interval → Held
-holding b t [] = Nowhere
-holding b t (i ∷ L) = let later = holding b t L in cond (leb i.bottom b && leb t i.top) (In (record { bottom = i.bottom; top = i.top })) later
 
 -- MODEL 11.1: the interval of a list in which all half rows from b up to t lie, the first if there are several
 unfoldable pub held_in : ℕ → ℕ → List Interval → Option Read

@@ -2,10 +2,10 @@
 // The part is read from its front, and what it becomes is written into a part of zeros that is copied back.
 #![tactic(auto)]
 
-ghost use Rattle.std.specs.Prelude.{◌≡◌, [], ◌∷◌, ◌<◌, ◌≤◌, ◌↔◌, IsTrue, length};
+ghost use Rattle.std.specs.Prelude.{◌≡◌, [], ◌∷◌, ◌<◌, ◌≤◌, ◌↔◌, IsTrue};
 ghost use Rattle.runs.specs.Intervals.{interval, piece, subtract, unite};
-ghost use Rattle.model.specs.Limits.{max_intervals, column_size, words};
-ghost use Rattle.column.specs.Part.{Part, ReadAt, listed_in, Room, Joinable, Short, Wrote, Absorbed, Changed, holding, held_in, first_reaching};
+ghost use Rattle.model.specs.Limits.{max_intervals, words};
+ghost use Rattle.column.specs.Part.{Part, ReadAt, listed_in, Room, Joinable, Short, Wrote, Absorbed, Changed, held_in, first_reaching};
 
 use model::{COLUMN_SIZE, INTERVAL_SIZE, INTERVAL_TOP_AT};
 use words::{get16, put16};
@@ -74,13 +74,6 @@ impl Column<'_> {
     }
 }
 
-// The interval in which all that was asked for lies.
-#[derive(Drop)]
-pub enum Held {
-    In(Interval),
-    Nowhere,
-}
-
 // A part that is written from its front, and how many intervals stand there. It borrows its bytes: as an array of its own they are zeroed three times,
 // and the test of a full record takes a fifth longer.
 #[derive(Drop)]
@@ -138,7 +131,7 @@ impl Draft<'_> {
 }
 
 // MODEL 12.4: cuts a run out of the intervals of a part. The answer is how many are left.
-pub fn cut_run(part: &mut [u8], count: usize, run: Interval) -> usize
+pub fn cut(part: &mut [u8], count: usize, run: Interval) -> usize
     requires { Room (subtract run.bottom run.top) part.old count }
     ensures { Changed (subtract run.bottom run.top) part.old count part.new result }
 {
@@ -164,7 +157,7 @@ pub fn cut_run(part: &mut [u8], count: usize, run: Interval) -> usize
 }
 
 // MODEL 12.5: joins a run to the intervals of a part, below and above at once. The answer is how many there are then.
-pub fn join_run(part: &mut [u8], count: usize, run: Interval) -> usize
+pub fn join(part: &mut [u8], count: usize, run: Interval) -> usize
     requires { Joinable run.bottom run.top part.old count }
     ensures { Changed (unite run.bottom run.top) part.old count part.new result }
 {
@@ -181,55 +174,4 @@ pub fn join_run(part: &mut [u8], count: usize, run: Interval) -> usize
     joined.push(carried);
     part.copy_from_slice(joined.bytes);
     joined.count
-}
-
-// MODEL 8.3: interval i of a part.
-pub fn read(part: &[u8], i: usize) -> Interval
-    requires { (length part.now ≡ column_size) × (i < max_intervals) }
-    ensures { ReadAt part.now i result }
-{
-    let column = Column { part, count: 0 };
-    column.interval(i)
-}
-
-// MODEL 12.4: cuts bottom..top out of the intervals of a part. The answer is how many are left.
-pub fn cut(part: &mut [u8], count: usize, bottom: u32, top: u32) -> usize
-    requires { Room (subtract bottom top) part.old count }
-    ensures { Changed (subtract bottom top) part.old count part.new result }
-{
-    cut_run(part, count, Interval { bottom, top })
-}
-
-// MODEL 12.5: joins bottom..top to the intervals of a part, below and above at once. The answer is how many there are then.
-pub fn join(part: &mut [u8], count: usize, bottom: u32, top: u32) -> usize
-    requires { Joinable bottom top part.old count }
-    ensures { Changed (unite bottom top) part.old count part.new result }
-{
-    join_run(part, count, Interval { bottom, top })
-}
-
-// MODEL 6.5 and 11.1: the interval of a part in which all half rows from bottom up to top lie.
-pub fn holder(part: &[u8], count: usize, bottom: u32, top: u32) -> Held
-    requires { Part part.now count }
-    ensures { result ≡ holding bottom top (listed_in part.now count) }
-{
-    let mut i: usize = 0;
-    while i < count {
-        let next = read(part, i);
-        // The top first: of the intervals below the half rows it alone is looked at.
-        if top <= next.top && next.bottom <= bottom {
-            return Held::In(next);
-        }
-        i += 1;
-    }
-    Held::Nowhere
-}
-
-// MODEL 11.1: the number of the first interval, from number `from` on, that ends at `top` or above it; `count` if there is none. Only tops are read.
-pub fn reaching(part: &[u8], count: usize, from: usize, top: u32) -> usize
-    requires { Part part.now count }
-    ensures { result ≡ first_reaching from top (listed_in part.now count) }
-{
-    let column = Column { part, count };
-    column.reaching(from, top)
 }

@@ -3,7 +3,7 @@ use Rattle.std.specs.Prelude.{ℕ, ◌-◌, ◌*◌, ◌+◌, ◌≤◌, ◌<◌
 use Rattle.runs.specs.Runs.{Run, run, Mem, Canon, push}
 use Rattle.runs.specs.Intervals.{Interval, Apart, Multiple, OnGrid}
 use Rattle.runs.specs.Meet.{Step, Proper, Lcm, Both_of, Spaced, Meeting}
-use Rattle.runs.specs.Meets.{Meets}
+use Rattle.runs.specs.Meet.{Meets}
 use Rattle.runs.specs.declared.Range.{Range}
 use Rattle.model.specs.Limits.{words, max_rows, max_intervals, reach}
 use Rattle.model.specs.Columns.{height}

@@ -4,8 +4,6 @@ use Rattle.model.specs.Columns.{kind_C, kind_B, kind_D}
 use Rattle.model.specs.declared.Kind.{Kind}
 use Rattle.model.specs.declared.Kind.TheVariants.{C, B, D}
 use Rattle.model.specs.declared.UnknownKind.{UnknownKind}
-use Rattle.model.specs.declared.KindRead.{KindRead}
-use Rattle.model.specs.declared.KindRead.TheVariants.{Known, Unknown}
 
 -- MODEL 3.3: the number of a kind
 abbrev pub number_of : Kind → ℕ
@@ -16,6 +14,3 @@ number_of D = kind_D
 -- MODEL 3.3: the kind of a number, if it is one of a kind
 abbrev pub kind_of : ℕ → Result Kind UnknownKind
 kind_of n = cond (eqb n kind_C) (Ok C) (cond (eqb n kind_B) (Ok B) (cond (eqb n kind_D) (Ok D) (Err (record { 0 = n }))))
-
-abbrev pub kind_read : ℕ → KindRead
-kind_read n = cond (eqb n kind_C) (Known C) (cond (eqb n kind_B) (Known B) (cond (eqb n kind_D) (Known D) Unknown))

@@ -5,7 +5,7 @@
 ghost use Rattle.std.specs.Prelude.{◌≡◌, ◌/◌, ◌%◌, ◌≤◌, eqb};
 ghost use Rattle.model.specs.Limits.{max_rows};
 ghost use Rattle.model.specs.Columns.{height, cells_in, top_in};
-ghost use Rattle.model.specs.Kinds.{number_of, kind_of, kind_read};
+ghost use Rattle.model.specs.Kinds.{number_of, kind_of};
 
 use std::error::Error;
 use std::fmt;
@@ -27,9 +27,7 @@ pub const MAX_KIND: u8 = 2;
 
 pub const REACH: u32 = 256;
 
-// How many numbers one byte holds, and two bytes.
-pub const BYTES: u32 = 256;
-
+// How many numbers two bytes hold.
 pub const WORDS: u32 = 65536;
 
 // MODEL 8.1 and 8.2: the record's length, and where its parts stand.
@@ -141,13 +139,6 @@ impl fmt::Display for UnknownKind {
 
 impl Error for UnknownKind {}
 
-// What a kind byte says.
-#[derive(Drop)]
-pub enum KindRead {
-    Known(Kind),
-    Unknown,
-}
-
 #[tactic(auto, using(crate::proofs::Laws::Columns::height_pos), unfolding(crate::specs::Columns::height, crate::specs::Columns::cells_in, crate::specs::Columns::top_in))]
 impl Kind {
     // MODEL 3.3: heights in half rows.
@@ -203,21 +194,5 @@ impl Kind {
         ensures { result ≡ eqb (n % height (number_of self)) 0 }
     {
         self.with_height(|height| n % height == 0)
-    }
-
-    pub fn number(self) -> u8
-        ensures { result ≡ number_of self }
-    {
-        u8::from(self)
-    }
-
-    // The kind that a kind byte says.
-    pub fn of_byte(byte: u8) -> KindRead
-        ensures { result ≡ kind_read byte }
-    {
-        match Kind::try_from(byte) {
-            Ok(kind) => KindRead::Known(kind),
-            Err(_) => KindRead::Unknown,
-        }
     }
 }

@@ -12,7 +12,7 @@ use crate::bytes::Entry;
 use crate::checked::SoundRecord;
 use crate::edit::edit_block;
 use crate::entries::insert_entry;
-use column::cut_run;
+use column::cut;
 use model::RECORD_SIZE;
 use task::{Position, Task};
 
@@ -22,7 +22,7 @@ fn take_blocks(record: &mut [u8; RECORD_SIZE], task: Task<'_>, at: Position)
     ensures { «record».new ≡ taken (device_of «record».old) (book_of «record».old) (placed task.entry.bytes.now at.column at.bottom) (blocks task.entry.bytes.now) }
 {
     for k in 0..task.count() {
-        edit_block(record, task.block(k), at, cut_run);
+        edit_block(record, task.block(k), at, cut);
     }
 }
 

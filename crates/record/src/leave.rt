@@ -9,7 +9,7 @@ use crate::bytes::{position_at, task_at};
 use crate::checked::SoundRecord;
 use crate::edit::edit_block;
 use crate::entries::remove_entry;
-use column::join_run;
+use column::join;
 use model::RECORD_SIZE;
 
 // Frees the cells of the task of entry j. Its blocks are read where they stand, in the record.
@@ -20,7 +20,7 @@ fn free_blocks(record: &mut [u8; RECORD_SIZE], j: usize)
     let at = position_at(record, j);
     for k in 0..task_at(record, j).count() {
         let block = task_at(record, j).block(k);
-        edit_block(record, block, at, join_run);
+        edit_block(record, block, at, join);
     }
 }
 

@@ -2,5 +2,4 @@
 pub mod Runs
 pub mod Intervals
 pub mod Meet
-pub mod Meets
 pub mod Laws

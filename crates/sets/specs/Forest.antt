@@ -69,11 +69,6 @@ Edge E i j = In (i, j) E ⊎ In (j, i) E
 abbrev pub max_nodes : ℕ
 max_nodes = 65536
 
--- P is a forest whose nodes are numbers of two bytes
-pub record Parents (P : List ℕ) : Type 0 where
-  pub falls : Falls (at P)
-  pub few : length P ≤ max_nodes
-
 -- Q is P after the edges E, of which r brought two sets together
 pub record Joins (E : List (ℕ × ℕ)) (P Q : List ℕ) (r : ℕ) : Type 0 where
   pub parents_are : Q ≡ unions P E

@@ -1,8 +1,8 @@
 // Sets of nodes as a forest of parents: each node alone, the root of a node, and the sets of two nodes made one. The theory is in specs/.
 #![tactic(auto)]
 
-ghost use Rattle.std.specs.Prelude.{◌≡◌, not, ◌≤◌, ◌<◌, eqb, length, replicate};
-ghost use Rattle.sets.specs.Forest.{Falls, at, root as root_of, union, Alone, Parents, max_nodes};
+ghost use Rattle.std.specs.Prelude.{◌≡◌, not, ◌≤◌, ◌<◌, eqb, replicate};
+ghost use Rattle.sets.specs.Forest.{Falls, at, root as root_of, union, Alone, max_nodes};
 
 // A forest of N nodes. A node is an index, and its parent is not above it; a root is its own parent.
 #[derive(Drop)]
@@ -62,56 +62,4 @@ impl<const N: usize> Forest<N> {
         self.parents[a.max(b)] = a.min(b) as u16;
         true
     }
-}
-
-// A parent as an index.
-fn wide(x: u16) -> usize
-    ensures { result ≡ x }
-{
-    x as usize
-}
-
-// Makes each of the first n nodes its own parent.
-pub fn set_apart(parents: &mut [u16], n: usize)
-    requires { Parents parents.old × (n ≤ length parents.old) }
-    ensures { Alone n parents.new × Parents parents.new }
-{
-    let mut i: usize = 0;
-    while i < n {
-        parents[i] = i as u16;
-        i += 1;
-    }
-}
-
-// The root of a node: up from parent to parent.
-pub fn root(parents: &[u16], node: usize) -> usize
-    requires { Falls (at parents.now) × (node < length parents.now) }
-    ensures { (result ≡ root_of parents.now node) × (result ≤ node) }
-{
-    let mut i = node;
-    let mut up = wide(parents[i]);
-    while up != i {
-        i = up;
-        up = wide(parents[i]);
-    }
-    i
-}
-
-// Makes one set of the sets of two nodes, and says whether they were two. The higher root goes below the lower.
-pub fn unite(parents: &mut [u16], i: usize, j: usize) -> bool
-    requires { Parents parents.old × (i < length parents.old) × (j < length parents.old) }
-    ensures { (parents.new ≡ union parents.old i j)
-        × (result ≡ not (eqb (root_of parents.old i) (root_of parents.old j))) }
-{
-    let a = root(parents, i);
-    let b = root(parents, j);
-    if a == b {
-        return false;
-    }
-    if a < b {
-        parents[b] = a as u16;
-    } else {
-        parents[a] = b as u16;
-    }
-    true
 }

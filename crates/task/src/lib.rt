@@ -3,7 +3,7 @@
 #![tactic(auto)]
 
 ghost use Rattle.std.specs.Prelude.{◌≡◌, true, false, ◌+◌, ◌*◌, ◌≤◌, ◌<◌, ◌↔◌, length, get_or, IfOk, IsErrOf};
-ghost use Rattle.model.specs.Limits.{block_size, max_kind, max_blocks, words};
+ghost use Rattle.model.specs.Limits.{block_size, max_blocks, words};
 ghost use Rattle.model.specs.Columns.{height};
 ghost use Rattle.model.specs.Tasks.{lifted, block, blocks, sized, block_ok, follows, well_formed, step};
 ghost use Rattle.task.specs.Blocks.{seen, Same, SameExtent, Reads, starts};
@@ -157,7 +157,7 @@ pub fn extent_at(task: &[u8], i: usize) -> Extent
 }
 
 // MODEL 4.2 and 4.8: block i of a task, where its kind byte is a kind's.
-#[tactic(auto, using(model::proofs::Laws::Kinds::known_kind, model::proofs::Laws::Kinds::unknown_kind), unfolding(model::specs::Tasks::block))]
+#[tactic(auto, using(model::proofs::Laws::Kinds::kind_known, model::proofs::Laws::Kinds::kind_unknown), unfolding(model::specs::Tasks::block))]
 pub fn read_block(task: &[u8], i: usize) -> Option<Block>
     requires { block_size * i + block_size ≤ length task.now }
     ensures { Reads result (block task.now i) }
@@ -171,14 +171,6 @@ pub fn read_block(task: &[u8], i: usize) -> Option<Block>
         low: extent.low,
         high: extent.high,
     })
-}
-
-// Block i of a task, where its kind is known.
-pub fn block_at(task: &[u8], i: usize) -> Block
-    requires { (block_size * i + block_size ≤ length task.now) × ((block task.now i).kind ≤ max_kind) }
-    ensures { Same result (block task.now i) }
-{
-    read_block(task, i).unwrap()
 }
 
 // MODEL 4.1: whether the bytes are those of 1 to 32 whole blocks.

@@ -3,11 +3,6 @@ use Rattle.std.specs.Prelude.{ℕ, ◌<◌, ◌≡◌, Bool, true, false, List, 
 use Rattle.model.specs.Limits.{words}
 use Rattle.model.specs.Tasks.{word}
 
--- the byte x, as a wider number
-pub record Widened (x r : ℕ) : Type 0 where
-  pub is : r ≡ x
-  pub small : r < 256
-
 -- MODEL 4.3: the number of two bytes of s at `at`
 pub record Read16 (s : List ℕ) (at r : ℕ) : Type 0 where
   pub is : r ≡ word s at

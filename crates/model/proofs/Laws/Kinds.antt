@@ -5,12 +5,10 @@ use Rattle.std.proofs.lemmas.Bool.{eqb-false}
 use Rattle.runs.specs.Laws.Tests.{tests, cond_ind}
 use Rattle.model.specs.Limits.{max_kind}
 use Rattle.model.specs.Columns.{kind_C, kind_B, kind_D}
-use Rattle.model.specs.Kinds.{number_of, kind_of, kind_read}
+use Rattle.model.specs.Kinds.{number_of, kind_of}
 use Rattle.model.specs.declared.Kind.{Kind}
 use Rattle.model.specs.declared.Kind.TheVariants.{C, B, D}
 use Rattle.model.specs.declared.UnknownKind.{UnknownKind}
-use Rattle.model.specs.declared.KindRead.{KindRead}
-use Rattle.model.specs.declared.KindRead.TheVariants.{Known, Unknown}
 
 -- every kind is 0 to 2
 pub known : (k : Kind) → leb (number_of k) max_kind ≡ true
@@ -30,26 +28,8 @@ kind_is n =
     (λ c. cond_ind is (eqb n kind_B) (λ e. omega tests)
     (λ b. cond_ind is (eqb n kind_D) (λ e. omega tests) (λ d. (refl, omega (arith, eqb-false n kind_C c, eqb-false n kind_B b, eqb-false n kind_D d)))))
 
-pub known_kind : (n : ℕ) (r : Result Kind UnknownKind) (k : Kind) → r ≡ kind_of n → r ≡ Ok k → number_of k ≡ n
-known_kind n r k e h = subst (λ (x : Result Kind UnknownKind). KindIs x n) (sym e ∙ h) (kind_is n)
+pub kind_known : (n : ℕ) (r : Result Kind UnknownKind) (k : Kind) → r ≡ kind_of n → r ≡ Ok k → number_of k ≡ n
+kind_known n r k e h = subst (λ (x : Result Kind UnknownKind). KindIs x n) (sym e ∙ h) (kind_is n)
 
-pub unknown_kind : (n : ℕ) (r : Result Kind UnknownKind) (u : UnknownKind) → r ≡ kind_of n → r ≡ Err u → (u.0 ≡ n) × (max_kind < n)
-unknown_kind n r u e h = subst (λ (x : Result Kind UnknownKind). KindIs x n) (sym e ∙ h) (kind_is n)
-
--- what reading the kind byte n answers
-abbrev ReadIs : KindRead → ℕ → Type 0
-ReadIs (Known k) n = number_of k ≡ n
-ReadIs Unknown n = max_kind < n
-
-read_is : (n : ℕ) → ReadIs (kind_read n) n
-read_is n =
-    let is : KindRead → Type 0 = λ r. ReadIs r n in
-    cond_ind is (eqb n kind_C) (λ e. omega tests)
-    (λ c. cond_ind is (eqb n kind_B) (λ e. omega tests)
-    (λ b. cond_ind is (eqb n kind_D) (λ e. omega tests) (λ d. omega (arith, eqb-false n kind_C c, eqb-false n kind_B b, eqb-false n kind_D d))))
-
-pub kind_known : (n : ℕ) (r : KindRead) (k : Kind) → r ≡ kind_read n → r ≡ Known k → number_of k ≡ n
-kind_known n r k e h = subst (λ (x : KindRead). ReadIs x n) (sym e ∙ h) (read_is n)
-
-pub kind_unknown : (n : ℕ) (r : KindRead) → r ≡ kind_read n → r ≡ Unknown → max_kind < n
-kind_unknown n r e h = subst (λ (x : KindRead). ReadIs x n) (sym e ∙ h) (read_is n)
+pub kind_unknown : (n : ℕ) (r : Result Kind UnknownKind) (u : UnknownKind) → r ≡ kind_of n → r ≡ Err u → (u.0 ≡ n) × (max_kind < n)
+kind_unknown n r u e h = subst (λ (x : Result Kind UnknownKind). KindIs x n) (sym e ∙ h) (kind_is n)

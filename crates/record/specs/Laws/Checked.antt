@@ -9,7 +9,7 @@ use Rattle.model.specs.Sound.{sound, count_of}
 use Rattle.model.specs.Kinds.{kind_of}
 use Rattle.model.specs.declared.Kind.{Kind}
 use Rattle.model.specs.declared.UnknownKind.{UnknownKind}
-use Rattle.model.proofs.Laws.Kinds.{unknown_kind}
+use Rattle.model.proofs.Laws.Kinds.{kind_unknown}
 use Rattle.model.proofs.Laws.Limits.{limits_to, kind_le}
 use Rattle.model.proofs.Laws.Sound.{columns_said, kind_read, sound_within}
 use Rattle.column.specs.Part.{Part}
@@ -37,4 +37,4 @@ module _ (r : List ℕ) (s : sound r ≡ true) where
 -- a kind byte up to 2 is known
 pub known_byte : (n : ℕ) (k : Result Kind UnknownKind) → k ≡ kind_of n → n ≤ max_kind → IsOk k
 known_byte n (Ok k) e l = refl
-known_byte n (Err u) e l = let (is, above) = unknown_kind n (Err u) u e refl in absurd (omega arith)
+known_byte n (Err u) e l = let (is, above) = kind_unknown n (Err u) u e refl in absurd (omega arith)

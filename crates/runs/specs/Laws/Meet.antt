@@ -3,8 +3,7 @@ use Rattle.std.specs.Prelude.{◌≡◌, ◌⊎◌, Some, None, ℕ, zero, suc, 
 use Rattle.std.proofs.Common.{sym, inl, inr, mul-le-mul_right, lt_of_mul-lt-mul_right, div-add-mod', mod-lt, arith}
 use Rattle.runs.specs.Laws.Tests.{lt_or_ge}
 use Rattle.runs.specs.Runs.{run, Steps, In}
-use Rattle.runs.specs.Meet.{number_limit, search_limit, Step, Proper, Names, Lcm, Start, Both_of}
-use Rattle.runs.specs.Meets.{Meets, FoundCommon}
+use Rattle.runs.specs.Meet.{number_limit, search_limit, Step, Proper, Names, Lcm, Start, FoundCommon, Both_of, Meets}
 use Rattle.runs.specs.Laws.Steps.{steps_trans, steps_diff, steps_back, steps_multiple, steps_mod, mod_steps}
 use Rattle.runs.specs.Laws.Lcm.{lcm_same}
 use Rattle.runs.specs.declared.Range.{Range}

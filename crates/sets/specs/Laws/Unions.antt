@@ -13,7 +13,7 @@ use Rattle.std.proofs.Math.Seq.{get_or-set_same, get_or-set_other}
 use Rattle.std.proofs.lemmas.Bool.{eqb-false}
 use Rattle.runs.specs.Laws.Tests.{cond_ind, lt_or_ge}
 use Rattle.sets.specs.Graph.{In, Joined, Represents}
-use Rattle.sets.specs.Forest.{Falls, at, root, union, unions, merges, roots, Forest, Alone, Below, Edge, max_nodes, Parents}
+use Rattle.sets.specs.Forest.{Falls, at, root, union, unions, merges, roots, Forest, Alone, Below, Edge}
 use Rattle.sets.specs.Laws.Joined.{joined_refl, joined_trans, joined_sym, joined_within}
 use Rattle.sets.specs.Laws.Groups.{represents_same}
 use Rattle.sets.specs.Laws.Tops.{top_le, top_up, top_root, top_fixed, Linked, link_falls, link_top, link_count, length_roots, roots_represent}
@@ -127,20 +127,6 @@ module _ (P : List ℕ) (f : Falls (at P)) (i j a b : ℕ) (ea : a ≡ root P i)
   unite_same e =
       let h : root P i ≡ root P j = sym ea ∙ e ∙ eb in
       (sym (union_same P f i j h), ap not (sym (eq-eqb (root P i) (root P j) h)))
-
-  pub unite_low : a < b → (set P b a ≡ union P i j) × (true ≡ not (eqb (root P i) (root P j)))
-  unfolding union
-  unite_low l =
-      let h : b ≡ max (root P i) (root P j) = omega arith in
-      let g : a ≡ min (root P i) (root P j) = omega arith in
-      (ap₂ (set P) h g, ap not (sym (ne_eqb (root P i) (root P j) (λ e. omega arith))))
-
-  pub unite_high : b < a → (set P a b ≡ union P i j) × (true ≡ not (eqb (root P i) (root P j)))
-  unfolding union
-  unite_high l =
-      let h : a ≡ max (root P i) (root P j) = omega arith in
-      let g : b ≡ min (root P i) (root P j) = omega arith in
-      (ap₂ (set P) h g, ap not (sym (ne_eqb (root P i) (root P j) (λ e. omega arith))))
 
   pub unite_two : ¬ (a ≡ b) → {h l : ℕ} → h ≡ max a b → l ≡ min a b → (set P h l ≡ union P i j) × (true ≡ not (eqb (root P i) (root P j)))
   unfolding union
@@ -261,30 +247,3 @@ module _ (m : ℕ) (P : List ℕ) (a : Alone m P) (E : List (ℕ × ℕ)) (b : B
         (λ x y k l. within T (λ i j t. within (Edge E) edge i j (complete i j t)) x y)
         (roots (at (unions P E)) m)
         (roots_represent (at (unions P E)) (unions_forest m P a.forest E b).falls m)
-
--- ---- making nodes their own parents
-
-pub own_step : (P : List ℕ) (i : ℕ) → i < length P → Falls (at P) → ((k : ℕ) → k < i → at P k ≡ k)
-    → Falls (at (set P i i)) × ((k : ℕ) → k < i + 1 → at (set P i i) k ≡ k)
-own_step P i l f o = (
-  λ k. ⊎_elim (λ q. omega (arith, same k q)) (λ q. omega (arith, other k q, f k)) (eq_or k),
-  λ k m. ⊎_elim (λ q. same k q) (λ q. other k q ∙ o k (omega arith)) (eq_or k),
-)
-  where
-    eq_or : (k : ℕ) → (k ≡ i) ⊎ (k ≡ i → ⊥)
-    eq_or k = ⊎_elim (λ p. inr (λ e. omega arith)) (λ p. ⊎_elim (λ q. inr (λ e. omega arith)) (λ q. inl (omega arith)) (lt_or_ge i k)) (lt_or_ge k i)
-
-    same : (k : ℕ) → k ≡ i → at (set P i i) k ≡ k
-    same k e = rw e (get_or-set_same P i i 0 l)
-
-    other : (k : ℕ) → (k ≡ i → ⊥) → at (set P i i) k ≡ at P k
-    other k n = get_or-set_other P i k i 0 n
-
--- parents that are all 0 are a forest
-zero_at : (n k : ℕ) → at (replicate n 0) k ≡ 0
-zero_at zero k = refl
-zero_at (suc n) zero = refl
-zero_at (suc n) (suc k) = zero_at n k
-
-pub zeros_parents : (n : ℕ) → n ≤ max_nodes → Parents (replicate n 0)
-zeros_parents n l = record { falls = λ k. omega (arith, zero_at n k); few = omega (arith, length-replicate {A = ℕ} n 0) }

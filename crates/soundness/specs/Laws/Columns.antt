@@ -7,7 +7,7 @@ use Rattle.model.specs.Columns.{Device, columns, kind, cells, cells_in, height, 
 use Rattle.model.specs.Kinds.{number_of, kind_of}
 use Rattle.model.specs.declared.Kind.{Kind}
 use Rattle.model.specs.declared.UnknownKind.{UnknownKind}
-use Rattle.model.proofs.Laws.Kinds.{known_kind, unknown_kind}
+use Rattle.model.proofs.Laws.Kinds.{kind_known, kind_unknown}
 use Rattle.model.specs.Book.{intervals}
 use Rattle.model.specs.Record.{part, column_at, device_of, book_of}
 use Rattle.model.specs.Sound.{within, count_of, sound}
@@ -47,7 +47,7 @@ module _ (r H : List ℕ) (m : TasksHeld r H (get_or r running_at 0)) where
 
     module _ (t : Kind) (o : Ok t ≡ kind_of (get_or d.kinds c 0)) {n h : ℕ} (f : n ≡ cells_in d.rows (number_of t)) (g : h ≡ height (number_of t)) where
       kind_is : number_of t ≡ kind (device_of r) c
-      kind_is = known_kind (get_or d.kinds c 0) (Ok t) t o refl ∙ kind_said r e c
+      kind_is = kind_known (get_or d.kinds c 0) (Ok t) t o refl ∙ kind_said r e c
 
       same_cells : n ≡ cells (device_of r) c
       unfolding cells
@@ -86,7 +86,7 @@ sound_column r B s c q =
 -- the number of a kind is read as one
 pub kind_read : (n : ℕ) {k : Result Kind UnknownKind} → k ≡ kind_of n → n ≤ max_kind → IsOk k
 kind_read n {k = Ok t} e q = refl
-kind_read n {k = Err u} e q = absurd (omega (arith, (unknown_kind n (Err u) u e refl).1))
+kind_read n {k = Err u} e q = absurd (omega (arith, (kind_unknown n (Err u) u e refl).1))
 
 -- two columns more
 pub two_more : (r : List ℕ) (c : ℕ) → ColumnsOk r c → ColumnOk r c × ColumnOk r (c + 1) → ColumnsOk r (c + 2)

@@ -1,7 +1,7 @@
 -- `record::checked::SoundRecord::kind`: a sound record has no byte of an unknown kind. Assumes nothing.
 use Rattle.std.proofs.Common.{◌∙◌, arith}
 use Rattle.model.proofs.Laws.Sound.{sound_length}
-use Rattle.model.proofs.Laws.Kinds.{known_kind}
+use Rattle.model.proofs.Laws.Kinds.{kind_known}
 use Rattle.record.specs.Laws.Checked.{columns_few, kind_byte, kind_small, known_byte}
 use Rattle.record.proofs.checked.SoundRecord.kind.Goals as goal
 
@@ -15,4 +15,4 @@ pub unwrap-requires : goal.unwrap-requires
 unwrap-requires c = known_byte _ _ c.try_from.ensures (kind_small _ c.args.self.sound _ c.requires)
 
 pub returns : goal.returns
-returns c = known_kind _ _ _ c.try_from.ensures c.unwrap.ensures ∙ kind_byte _ c.args.self.sound _ c.requires
+returns c = kind_known _ _ _ c.try_from.ensures c.unwrap.ensures ∙ kind_byte _ c.args.self.sound _ c.requires

@@ -3,7 +3,7 @@ use Rattle.std.proofs.Common.{◌-◌}
 use Rattle.runs.specs.Intervals.{subtract}
 use Rattle.column.specs.Part.{listed_from, listed_in}
 use Rattle.column.specs.Laws.Writing.{Writing}
-use Rattle.column.proofs.cut_run.Given as goal
+use Rattle.column.proofs.cut.Given as goal
 
 abbrev pub invariant-loop-i : goal.invariant-loop-i
 invariant-loop-i l =

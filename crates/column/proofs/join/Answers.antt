@@ -1,6 +1,6 @@
 -- Answers of `column::join`.
 use Rattle.column.specs.Laws.Writing.{join_start, join_next, join_room, join_end, copied, zeros}
-use Rattle.column.proofs.join_run.Goals as goal
+use Rattle.column.proofs.join.Goals as goal
 
 pub loop-i-init : goal.loop-i-init
 loop-i-init c =

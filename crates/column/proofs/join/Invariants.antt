@@ -3,7 +3,7 @@ use Rattle.std.proofs.Common.{◌-◌}
 use Rattle.runs.specs.Intervals.{unite}
 use Rattle.column.specs.Part.{listed_from, listed_in, merged, Short}
 use Rattle.column.specs.Laws.Writing.{Writing}
-use Rattle.column.proofs.join_run.Given as goal
+use Rattle.column.proofs.join.Given as goal
 
 abbrev pub invariant-loop-i : goal.invariant-loop-i
 invariant-loop-i l =

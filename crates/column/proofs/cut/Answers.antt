@@ -1,7 +1,7 @@
 -- Answers of `column::cut`.
 use Rattle.std.proofs.Common.{refl}
 use Rattle.column.specs.Laws.Writing.{on, cut_start, cut_next, cut_end, keep_room, copied, zeros}
-use Rattle.column.proofs.cut_run.Goals as goal
+use Rattle.column.proofs.cut.Goals as goal
 
 pub loop-i-init : goal.loop-i-init
 loop-i-init c = cut_start _ _ _ _ zeros
