@@ -18,7 +18,10 @@ pub fn next_line(input: &[u8]) -> Option<(&[u8], &[u8])>
     if input.is_empty() {
         return None;
     }
-    let end = line::fields::end_before(input, 0, b'\n');
+    let end = input
+        .iter()
+        .position(|byte| *byte == b'\n')
+        .unwrap_or(input.len());
     let next = input.len().min(end + 1);
     Some((&input[..end], &input[next..]))
 }

@@ -1,16 +1,11 @@
 -- MODEL 17: what the readers of a line's fields answer, in terms of the model's fields and numbers. Assumes nothing.
-use Rattle.std.specs.Prelude.{ℕ, ◌≡◌, cond, List, [], ◌∷◌, ltb, eqb, ℤ, Option, Some, None, Result}
+use Rattle.std.specs.Prelude.{ℕ, ◌≡◌, cond, List, [], ◌∷◌, ltb, ℤ, Option, Some, None, Result}
 use Rattle.std.specs.Result.{result_ok}
 use Rattle.std.specs.Int.Signed.{mag}
 use Rattle.std.proofs.Math.Option.{Option as Read, none, some}
 use Rattle.model.specs.Kinds.{number_of}
 use Rattle.model.specs.Sheet.{number}
 use Rattle.model.specs.declared.Kind.{Kind}
-
--- the bytes before the first b
-unfoldable pub until : ℕ → List ℕ → List ℕ
-until b [] = []
-until b (x ∷ l) = let rest = until b l in cond (eqb x b) [] (x ∷ rest)
 
 -- the byte of a field that is one
 abbrev pub one_byte : List ℕ → Option ℕ

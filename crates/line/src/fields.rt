@@ -1,20 +1,11 @@
 // MODEL 17.3 to 17.7: what a field of a line says. A line is parted into its fields by `split`.
-ghost use Rattle.std.specs.Prelude.{◌≡◌, length, drop, ◌+◌, ◌≤◌};
+ghost use Rattle.std.specs.Prelude.{◌≡◌};
 ghost use Rattle.model.specs.Sheet.{kind_letter};
-ghost use Rattle.line.specs.Fields.{until, one_byte, number_said, Narrowed, kind_said};
+ghost use Rattle.line.specs.Fields.{one_byte, number_said, Narrowed, kind_said};
 
 use itoa::Buffer;
 use model::Kind;
 use std::str;
-
-// Where the next `byte` from `at` on stands: the end, if there is none.
-pub fn end_before(text: &[u8], at: usize, byte: u8) -> usize
-    requires { at ≤ length text.now }
-    ensures { (result ≡ at + length (until byte (drop at text.now))) × (result ≤ length text.now) }
-{
-    let rest = &text[at..];
-    at + rest.iter().position(|b| *b == byte).unwrap_or(rest.len())
-}
 
 // The byte of a field that is one.
 pub fn byte(field: &[u8]) -> Option<u8>

@@ -1,10 +1,12 @@
 -- Where lines end, and what the first three lead to. Assumes nothing.
-use Rattle.std.specs.Prelude.{ℕ, suc, ◌+◌, ◌-◌, ◌≤◌, ◌≡◌, refl, min, Bool, true, false, cond, Some, None, Result, Ok, Err, MatchResult, List, [], ◌∷◌, eqb, pos, length, take, drop}
+use Rattle.std.specs.Prelude.{ℕ, suc, ◌+◌, ◌-◌, ◌≤◌, ◌≡◌, refl, min, Bool, true, false, not, cond, Option as Maybe, Some, None, unwrap_or, ltb, Result, Ok, Err, MatchResult, List, [], ◌∷◌, eqb, pos, length, take, drop}
 use Prim.Native.Char.{code}
 use Rattle.std.proofs.Math.Nat.{min_comm}
 use Rattle.std.proofs.lemmas.Result.{MatchResult-weaker}
 use Rattle.std.proofs.lemmas.List.{take_all, drop_min, length-take}
-use Rattle.std.proofs.Common.{Bor, ap, ap₂, ◌∙◌, arith, add-one, length-drop, eq-eqb, eqb-true}
+use Rattle.std.proofs.Common.{Bor, ap, ap₂, ◌∙◌, arith, add-one, length-drop, eq-eqb, eqb-true, ltb-false}
+use Rattle.std.specs.List.{position_or_len}
+use Rattle.std.proofs.lemmas.List.Sums.{prefix_len-le-length}
 use Rattle.std.proofs.Math.Option.{Option, none, some}
 use Rattle.model.specs.Limits.{record_size}
 use Rattle.model.specs.Sheet.{first_names, second_names, device_line}
@@ -14,7 +16,6 @@ use Rattle.model.proofs.Laws.Bounded.{and_to, is_false}
 use Rattle.model.proofs.Laws.OnRecord.{new_done, new_bad_device}
 use Rattle.model.specs.Columns.{Device, device_ok}
 use Rattle.model.specs.OnRecord.{new}
-use Rattle.line.specs.Fields.{until}
 use Rattle.line.specs.Device.{Reads}
 use Rattle.line.specs.declared.device.DeviceLine.{DeviceLine}
 use Rattle.card.specs.Leaves.{Changes}
@@ -28,30 +29,29 @@ use Rattle.desk.specs.Laws.Refusals.{refused_below}
 
 -- ---- the first line and the others
 
--- the bytes before the first newline
-abbrev line_of : List ℕ → List ℕ
-line_of s = until (code "\n") s
+-- how many bytes stand before the first newline
+abbrev line_length : List ℕ → ℕ
+line_length s = position_or_len (λ x. eqb x (code "\n")) s
 
 abbrev Parted : List ℕ → Type 0
-Parted s = lines s ≡ take (length (line_of s)) s ∷ lines (drop (suc (length (line_of s))) s)
+Parted s = lines s ≡ take (line_length s) s ∷ lines (drop (suc (line_length s)) s)
 
 -- by whether the first byte is a newline
 abbrev Parted_by : Bool → ℕ → List ℕ → Type 0
 Parted_by t x s =
-    cond t ([] ∷ lines s) (longer x (lines s))
-    ≡ take (length (cond t [] (x ∷ line_of s))) (x ∷ s) ∷ lines (drop (suc (length (cond t [] (x ∷ line_of s)))) (x ∷ s))
+    let n = cond (not t) (1 + line_length s) 0 in cond t ([] ∷ lines s) (longer x (lines s)) ≡ take n (x ∷ s) ∷ lines (drop (suc n) (x ∷ s))
 
 parted_last : (t : Bool) (x : ℕ) → Parted_by t x []
-unfolding lines until
+unfolding lines
 parted_last true x = refl
 parted_last false x = refl
 
 parted_more : (t : Bool) (x : ℕ) (s : List ℕ) → Parted s → Parted_by t x s
 parted_more true x s r = refl
-parted_more false x s r = ap (longer x) r
+parted_more false x s r = let n : 1 + line_length s ≡ suc (line_length s) = omega arith in rw n (ap (longer x) r)
 
 parted : (x : ℕ) (s : List ℕ) → Parted (x ∷ s)
-unfolding lines until
+unfolding lines
 parted x [] = parted_last (eqb x 10) x
 parted x (y ∷ s) = parted_more (eqb x 10) x (y ∷ s) (parted y s)
 
@@ -59,8 +59,16 @@ parted_any : (s : List ℕ) → 1 ≤ length s → Parted s
 parted_any [] h = absurd (omega arith)
 parted_any (x ∷ s) h = parted x s
 
+-- where a line was found to end: before its newline, or where the bytes end
+pub found_end : (s : List ℕ) {o : Maybe ℕ} → o ≡ cond (ltb (line_length s) (length s)) (Some (line_length s)) None → unwrap_or o (length s) ≡ line_length s
+found_end s e = rw e (go (ltb (line_length s) (length s)) refl)
+  where
+    go : (t : Bool) → ltb (line_length s) (length s) ≡ t → unwrap_or (cond t (Some (line_length s)) None) (length s) ≡ line_length s
+    go true q = refl
+    go false q = let h = ltb-false (line_length s) (length s) q in let most = prefix_len-le-length (λ x. not (eqb x (code "\n"))) s in omega arith
+
 -- a line ends before its newline, or where the bytes end
-pub parts : (s : List ℕ) (end next : ℕ) → 1 ≤ length s → end ≡ length (line_of s) → next ≡ min (length s) (end + 1) → Parts s (take end s) (take (length s - next) (drop next s))
+pub parts : (s : List ℕ) (end next : ℕ) → 1 ≤ length s → end ≡ line_length s → next ≡ min (length s) (end + 1) → Parts s (take end s) (take (length s - next) (drop next s))
 parts s end next h e n =
     record {
       lines_are = rw (take_all (length s - next) (drop next s) (omega (arith, length-drop next s)), n, min_comm, drop_min, e, add-one) (parted_any s h);

@@ -1,46 +1,17 @@
 -- MODEL 17.3: the fields of a line are the parts that `split` gives, one after the other. Assumes nothing.
-use Rattle.std.specs.Prelude.{ℕ, suc, ◌+◌, ◌-◌, ◌≤◌, ◌<◌, ◌≡◌, refl, Bool, true, false, cond, not, List, [], ◌∷◌, ◌++◌, length, take, drop, get_or, eqb, ltb, Option, Some, None, MatchBool, MatchOption, unwrap_or}
-use Rattle.std.proofs.Common.{sym, ap, ◌∙◌, arith, ltb-false, subst, take_all, add-zero, add-one, drop-drop, drop_of_length-le, length-drop}
+use Rattle.std.specs.Prelude.{ℕ, suc, ◌≤◌, ◌<◌, ◌≡◌, refl, Bool, true, false, cond, List, [], ◌∷◌, ◌++◌, length, drop, get_or, eqb, Option, Some, None, MatchBool, MatchOption}
+use Rattle.std.proofs.Common.{sym, ap, ◌∙◌, arith, subst, add-zero, add-one, drop-drop, drop_of_length-le, length-drop}
 use Rattle.std.proofs.lemmas.List.{get_or-drop}
-use Rattle.std.proofs.lemmas.List.Sums.{prefix_len-le-length}
 use denote.Ref.{Bor}
 use denote.Param.Members.{Mut}
 use Rattle.std.specs.Fn.{CalledAt}
 use Rattle.std.proofs.lemmas.Fn.{always_returns_same}
-use Rattle.std.specs.List.{All, position_or_len, slice_split, onto_first, IsFirstMatchOrLen}
+use Rattle.std.specs.List.{All, slice_split, onto_first, IsFirstMatchOrLen}
 use Rattle.std.specs.declared.slice.Split.{Split}
 use Rattle.std.specs.Slice.Iter as slice
 use Rattle.std.proofs.lemmas.Grind.{common_steps}
 use Rattle.std.proofs.lemmas.List.Splits.{slice_split_none, slice_split_at}
 use Rattle.model.specs.Sheet.{grown, fields}
-use Rattle.line.specs.Fields.{until}
-
--- ---- the next byte of a kind, in a text
-
-until_position : (b : ℕ) (l : List ℕ) → length (until b l) ≡ position_or_len (λ x. eqb x b) l
-unfolding until
-until_position b [] = refl
-until_position b (x ∷ l) = go (eqb x b) (until_position b l)
-  where
-    go : (t : Bool) → length (until b l) ≡ position_or_len (λ x. eqb x b) l → length (cond t [] (x ∷ until b l)) ≡ cond (not t) (1 + position_or_len (λ x. eqb x b) l) 0
-    go true e = refl
-    go false e = rw e (omega arith)
-
-pub until_found : (b : ℕ) (l : List ℕ) {o : Option ℕ} → o ≡ cond (ltb (position_or_len (λ x. eqb x b) l) (length l)) (Some (position_or_len (λ x. eqb x b) l)) None → (unwrap_or o (length l) ≡ length (until b l)) × (unwrap_or o (length l) ≤ length l)
-until_found b l e = rw (e, until_position b l) (go (ltb (position_or_len (λ x. eqb x b) l) (length l)) refl)
-  where
-    n : ℕ
-    n = position_or_len (λ x. eqb x b) l
-
-    go : (t : Bool) → ltb n (length l) ≡ t → (unwrap_or (cond t (Some n) None) (length l) ≡ n) × (unwrap_or (cond t (Some n) None) (length l) ≤ length l)
-    go true q = (refl, prefix_len-le-length (λ y. not (eqb y b)) l)
-    go false q = let h = ltb-false n (length l) q in let u = prefix_len-le-length (λ y. not (eqb y b)) l in (omega arith, omega arith)
-
--- a part up to the end of the text
-pub part_end : (s : List ℕ) (at : ℕ) → take (length s - at) (drop at s) ≡ drop at s
-part_end s at = take_all (length s - at) (drop at s) (rw (length-drop at s) (omega arith))
-
--- ---- parts
 
 grown_same : (x : ℕ) (l : List (List ℕ)) → grown x l ≡ onto_first x l
 grown_same x [] = refl
