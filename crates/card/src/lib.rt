@@ -135,7 +135,7 @@ pub fn place(
     ensures { Changes (on_record «record».old (place task.now number column bottom)) (answer_by (λ _. pos 0) result) «record».new }
 {
     let (task, at) = check_place(record, task, number, column, bottom)?;
-    record::enter::enter_at(record, task, number, at);
+    record::enter::enter(record, task, number, at);
     Ok(())
 }
 

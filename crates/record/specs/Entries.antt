@@ -9,7 +9,6 @@ use Rattle.model.specs.Record.{entry_at, entry_part, head_bytes, book_of}
 use Rattle.model.specs.Sound.{block_count}
 use Rattle.model.specs.InPlace.{Reads, no_entry, place}
 use Rattle.record.specs.declared.bytes.Entry.{Entry as Read}
-use Rattle.record.specs.declared.entries.Entry.{Entry}
 
 -- running task j of r
 abbrev pub entry_of : List ℕ → ℕ → Running
@@ -48,14 +47,6 @@ pub record HasTask (r : List ℕ) (j : ℕ) : Type 0 where
 abbrev pub ReadsEntry : List ℕ → ℕ → Option Read → Type 0
 ReadsEntry r j (Some e) = HasTask r j × (seen e ≡ bytes_entry r j)
 ReadsEntry r j None = HasTask r j → ⊥
-
--- what is read of entry j of r, with where its blocks begin and end
-pub record Says (r : List ℕ) (j : ℕ) (e : Entry) : Type 0 where
-  pub column : e.column ≡ get_or r (entry_at j + 2) 0
-  pub bottom : e.bottom ≡ word r (entry_at j + 4)
-  pub count : e.count ≡ block_count r j
-  pub from : e.from ≡ entry_at j + blocks_at
-  pub to : e.to ≡ entry_at j + blocks_at + block_size * block_count r j
 
 -- which entry of the book b has number n, if one has
 abbrev pub found : ℕ → Book → Option ℕ

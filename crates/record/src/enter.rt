@@ -27,7 +27,7 @@ fn take_blocks(record: &mut [u8; RECORD_SIZE], task: Task<'_>, at: Position)
 }
 
 // Enters a task under a number at a position where it fits.
-pub fn enter_at(record: &mut [u8], task: Task<'_>, number: u32, at: Position)
+pub fn enter(record: &mut [u8], task: Task<'_>, number: u32, at: Position)
     requires sound { sound «record».old ≡ true }
     requires fits { fits (device_of «record».old) (book_of «record».old) task.bytes.now at.column at.bottom ≡ true }
     requires numbered { number_ok number ≡ true }

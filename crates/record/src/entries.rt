@@ -4,7 +4,7 @@ ghost use Rattle.model.specs.Limits.{max_running, words, record_size, running_at
 ghost use Rattle.model.specs.Tasks.{word};
 ghost use Rattle.model.specs.Record.{padded, entry_bytes, entry_at, book_of};
 ghost use Rattle.model.specs.InPlace.{place};
-ghost use Rattle.record.specs.Entries.{found, seen, Says, Entered, Removed};
+ghost use Rattle.record.specs.Entries.{found, seen, Entered, Removed};
 
 use crate::bytes;
 use crate::checked::SoundRecord;
@@ -102,48 +102,4 @@ pub(crate) fn remove_entry(record: &mut [u8; RECORD_SIZE], k: usize)
     record.copy_within(a + ENTRY_SIZE..end, a);
     record[z..end].fill(0);
     record[RUNNING_AT] = last as u8;
-}
-
-// ---- as they were, until nothing calls them
-
-// A running entry: its position, how many blocks it has, and where they stand in the record.
-#[derive(Drop)]
-pub struct Entry {
-    pub column: u32,
-    pub bottom: u32,
-    pub count: usize,
-    pub from: usize,
-    pub to: usize,
-}
-
-// The task number of entry j.
-pub fn number_at(record: &[u8], j: usize) -> u32
-    requires { (length «record».now ≡ record_size) × (j < max_running) }
-    ensures { result ≡ word «record».now (entry_at j) }
-{
-    get16(record, ENTRIES_AT + ENTRY_SIZE * j)
-}
-
-// How many tasks run.
-pub fn running(record: &[u8]) -> usize
-    requires { length «record».now ≡ record_size }
-    ensures { result ≡ get_or «record».now running_at 0 }
-{
-    record[RUNNING_AT] as usize
-}
-
-// MODEL 8.4 and 21.5: entry j, with its blocks left where they stand, from its seventh byte on.
-pub fn read_entry(record: &[u8], j: usize) -> Entry
-    requires { (length «record».now ≡ record_size) × (j < max_running) }
-    ensures { Says «record».now j result }
-{
-    let at = ENTRIES_AT + ENTRY_SIZE * j;
-    let count = usize::from(record[at + ENTRY_COUNT_AT]);
-    Entry {
-        column: u32::from(record[at + ENTRY_COLUMN_AT]),
-        bottom: get16(record, at + ENTRY_BOTTOM_AT),
-        count: count,
-        from: at + BLOCKS_AT,
-        to: at + BLOCKS_AT + BLOCK_SIZE * count,
-    }
 }

@@ -10,7 +10,7 @@ use crate::bytes::{Entry, number_at, read_entry, running};
 use crate::checked::SoundRecord;
 use crate::clear::clear;
 use crate::device::device_ok;
-use crate::enter::enter_at;
+use crate::enter::enter;
 use model::{COLUMNS_AT, KINDS_AT, MAX_RUNNING, RECORD_SIZE, ROWS_AT};
 use words::get16;
 
@@ -35,7 +35,7 @@ fn enter_task(scratch: &mut [u8; RECORD_SIZE], entry: Entry<'_>) -> bool
     if !card.fits(entry.task, entry.at) {
         return false;
     }
-    enter_at(scratch, entry.task, entry.number, entry.at);
+    enter(scratch, entry.task, entry.number, entry.at);
     true
 }
 

@@ -10,4 +10,4 @@ unfolding lent
 returns-in_err-task c = leaves_refused _ c.from_residual.result _ c.from_residual.ensures.1 (rw (to_z-of_z c.ranges.bottom) at c.in_err-task.ensures)
 
 pub returns : goal.returns
-returns c = let (e, x) = rw (to_z-of_z c.ranges.bottom) at c.in_ok-task.ensures in rw (c.enter_at.ensures, e) (leaves (place_done _ _ _ _ _ _ x))
+returns c = let (e, x) = rw (to_z-of_z c.ranges.bottom) at c.in_ok-task.ensures in rw (c.enter.ensures, e) (leaves (place_done _ _ _ _ _ _ x))

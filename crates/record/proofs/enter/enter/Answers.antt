@@ -1,10 +1,10 @@
--- `record::enter::enter_at`: the entry's place, the blocks, the entry (`entered_record`). Assumes nothing.
+-- `record::enter::enter`: the entry's place, the blocks, the entry (`entered_record`). Assumes nothing.
 use Rattle.std.proofs.Common.{◌≤◌, ◌<◌, get_or}
 use Rattle.model.specs.Limits.{max_running, words, running_at}
 use Rattle.model.proofs.Laws.Sound.{sound_length}
 use Rattle.record.specs.Enter.{Placeable}
 use Rattle.record.specs.Laws.Enter.{entry_ready, entered_record}
-use Rattle.record.proofs.enter.enter_at.Goals as goal
+use Rattle.record.proofs.enter.enter.Goals as goal
 
 pub unwrap-record-requires : goal.unwrap-record-requires
 unwrap-record-requires c = c.as_mut_array.ensures.variant.1 (sound_length _ c.requires.sound)
