@@ -2,7 +2,7 @@
 #![tactic(auto)]
 
 ghost use Rattle.std.specs.Prelude.{◌≡◌, true, length, replicate, ◌<◌};
-ghost use Rattle.model.specs.Limits.{max_columns, record_size};
+ghost use Rattle.model.specs.Limits.{max_columns};
 ghost use Rattle.model.specs.Columns.{device_ok};
 ghost use Rattle.model.specs.Blocks.{Solid};
 ghost use Rattle.model.specs.Record.{device_of};
@@ -11,7 +11,7 @@ ghost use Rattle.marks.specs.Device.{as_device};
 ghost use Rattle.marks.specs.Marks.{column_words, all_words, words_of, EntryPosition, BlockMarked, TaskMarked};
 
 use cells::mark;
-use model::{COLUMNS_AT, KINDS_AT, MAX_COLUMNS, MAX_ROWS, REACH, ROWS_AT};
+use model::{COLUMNS_AT, KINDS_AT, MAX_COLUMNS, MAX_ROWS, REACH, RECORD_SIZE, ROWS_AT};
 use task::{Block, Position, Task};
 use words::get16;
 
@@ -36,8 +36,7 @@ pub struct HeldCells {
 impl<'a> Device<'a> {
     // MODEL 8.7: what the bytes of a record say, be it a device or not.
     #[tactic(auto, using(crate::specs::Laws::Marks::device_said))]
-    pub fn said(record: &'a [u8]) -> Device<'a>
-        requires { length «record».now ≡ record_size }
+    pub fn said(record: &'a [u8; RECORD_SIZE]) -> Device<'a>
         ensures { as_device result ≡ device_of «record».now }
     {
         let end = KINDS_AT + usize::from(record[COLUMNS_AT]);

@@ -17,20 +17,19 @@ ghost use Rattle.soundness.specs.Soundness.{TasksHeld, ColumnOk, ColumnsOk, Unus
 use cells::ColumnBits;
 use marks::{Device, HeldCells};
 use model::{
-    COLUMN_SIZE, COUNTS_AT, ENTRIES_AT, ENTRY_SIZE, INTERVALS_AT, KINDS_AT, Kind, MAX_BLOCKS,
+    BLOCKS_AT, COLUMN_SIZE, COUNTS_AT, ENTRIES_AT, ENTRY_SIZE, INTERVALS_AT, KINDS_AT, Kind,
     MAX_RUNNING, RECORD_SIZE,
 };
+use record::bytes::{part_at, read_entry, running};
 use record::device::device_ok;
-use record::entries::{read_entry, running};
 use record::sound::rises;
 use std::ops::Range;
-use task::{Position, Task};
 use words::zeros;
 
 // MODEL 9.1 to 9.3: bytes that have the length of a record, say a device, and have no more entries than fit.
 #[derive(Clone, Copy)]
 struct Legible<'a> {
-    bytes: &'a [u8],
+    bytes: &'a [u8; RECORD_SIZE],
     device: Device<'a>,
     ghost octets: { Bytes bytes.now },
     ghost size: { length bytes.now ≡ record_size },
@@ -63,12 +62,9 @@ fn same(a: &[u8], b: &[u8]) -> bool
 
 impl<'a> Legible<'a> {
     // The bytes, where they are legible; else they are no sound record.
-    fn read(bytes: &'a [u8]) -> Option<Legible<'a>>
+    fn read(bytes: &'a [u8; RECORD_SIZE]) -> Option<Legible<'a>>
         ensures { MatchOption result (sound bytes.now ≡ false) (λ l. l.bytes.now ≡ bytes.now) }
     {
-        if bytes.len() != RECORD_SIZE {
-            return None;
-        }
         let device = Device::said(bytes);
         if !device_ok(device.rows, device.kinds) || running(bytes) > MAX_RUNNING {
             return None;
@@ -82,7 +78,8 @@ impl<'a> Legible<'a> {
         requires within { range.end ≤ record_size }
         ensures { IsTrue result ↔ Zero self.now.bytes.now range.start range.end }
     {
-        zeros(&self.bytes[range.start..range.end])
+        let bytes = self.bytes;
+        zeros(&bytes[range])
     }
 
     // MODEL 9.8: whether the bytes behind the kinds, the counts, the parts and the entries that are in use are 0.
@@ -106,21 +103,15 @@ impl<'a> Legible<'a> {
         if !rises(self.bytes, j) {
             return false;
         }
-        let entry = read_entry(self.bytes, j);
-        if entry.count > MAX_BLOCKS {
-            return false;
-        }
-        let Ok(task) = Task::read(&self.bytes[entry.from..entry.to]) else {
+        let Some(entry) = read_entry(self.bytes, j) else {
             return false;
         };
-        if !self.zeros(entry.to..ENTRIES_AT + ENTRY_SIZE * (j + 1)) {
+        let at = ENTRIES_AT + ENTRY_SIZE * j;
+        let used = at + BLOCKS_AT + entry.task.bytes.len();
+        if !self.zeros(used..at + ENTRY_SIZE) {
             return false;
         }
-        let at = Position {
-            column: entry.column,
-            bottom: entry.bottom,
-        };
-        held.mark_task(self.device, task, at)
+        held.mark_task(self.device, entry.task, entry.at)
     }
 
     // The same for all running entries, up to the first that is not one of a sound record.
@@ -141,9 +132,8 @@ impl<'a> Legible<'a> {
         requires { c < max_columns }
         ensures { IsTrue result ↔ ((part self.now.bytes.now (column_at c) column_size ≡ listed.now) × (count_of self.now.bytes.now c ≡ count)) }
     {
-        let a = INTERVALS_AT + COLUMN_SIZE * c;
-        let e = a + COLUMN_SIZE;
-        usize::from(self.bytes[COUNTS_AT + c]) == count && same(&self.bytes[a..e], listed)
+        let bytes = self.bytes;
+        usize::from(bytes[COUNTS_AT + c]) == count && same(&bytes[part_at(c)], listed)
     }
 }
 
@@ -200,8 +190,8 @@ impl Marked<'_> {
     }
 }
 
-// MODEL 9.1: whether bytes of any length are a sound record.
-pub fn sound(record: &[u8]) -> bool
+// MODEL 9: whether the bytes are a sound record.
+fn is_sound(record: &[u8; RECORD_SIZE]) -> bool
     ensures { result ≡ sound «record».now }
 {
     let Some(legible) = Legible::read(record) else {
@@ -219,4 +209,11 @@ pub fn sound(record: &[u8]) -> bool
         held: &held,
     };
     marked.columns_ok()
+}
+
+// MODEL 9.1: the same of bytes of any length.
+pub fn sound(record: &[u8]) -> bool
+    ensures { result ≡ sound «record».now }
+{
+    record.as_array().is_some_and(is_sound)
 }

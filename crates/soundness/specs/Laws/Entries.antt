@@ -25,43 +25,31 @@ use Rattle.model.proofs.Laws.Clauses.{clauses_to}
 use Rattle.model.proofs.Laws.WriteBack.{Bytes}
 use Rattle.model.proofs.Laws.ReadBack.{get_d_in}
 use Rattle.model.proofs.Laws.Sound.{sound_within}
-use Rattle.task.specs.declared.TaskFault.{TaskFault}
-use Rattle.task.specs.declared.TaskFault.TheVariants.{Length, Form}
-use Rattle.marks.specs.Marks.{TaskMarked}
-use Rattle.record.specs.Entries.{entry_of, blocks_of, bytes_entry, HasEntry}
+use Rattle.marks.specs.Marks.{EntryPosition, TaskMarked}
+use Rattle.record.specs.Entries.{entry_of, bytes_entry, HasEntry, HasTask}
 use Rattle.record.specs.Laws.Said.{number_said, in_book, entry_by_bytes, blocks_length}
 use Rattle.record.specs.Laws.Before.{prior_above, insert_last, fits_among}
-use Rattle.record.specs.Rebuild.{prior, Passes}
-use Rattle.record.specs.Laws.Rebuild.{count_sound, blocks_sized, sound_fits}
+use Rattle.record.specs.Rebuild.{Passes}
+use Rattle.record.specs.Laws.Rebuild.{sound_fits}
 use Rattle.soundness.specs.Soundness.{RestZero, TasksHeld, Judged}
 
-pub small_word : (r : List ℕ) (i : ℕ) → Bytes r → word r i < words
+small_word : (r : List ℕ) (i : ℕ) → Bytes r → word r i < words
 unfolding word
 small_word r i B = omega (arith, B i, B (i + 1))
 
--- ---- where a test fails, the record is not sound
+-- where an entry's task stands can be read from its bytes
+pub entry_position : (r : List ℕ) (j : ℕ) (e : Running) → Bytes r → e ≡ bytes_entry r j → EntryPosition e.column e.bottom
+entry_position r j e B i = rw i (record { column = B (entry_at j + 2); bottom = small_word r (entry_at j + 4) B })
 
--- bytes that are a task's are read as one
-pub no_fault : {T : Type 0} (t : List ℕ) (f : TaskFault) → sized t ≡ true → well_formed t ≡ true → (IsErrOf {T = T} (Err f) Length → sized t ≡ false)
-    → (IsErrOf {T = T} (Err f) Form → (sized t ≡ true) × (well_formed t ≡ false)) → ⊥
-no_fault t Length z w short form = clash z (short refl)
-no_fault t Form z w short form = clash w (form refl).1
-
-module _ (r : List ℕ) (j : ℕ) (x : HasEntry r j) (s : sound r ≡ true) where
-  pub sound_sized : sized (blocks_of r j) ≡ true
-  sound_sized = let (one, few) = count_sound r j x s in blocks_sized r j x one few
-
-module _ (r : List ℕ) (j : ℕ) (x : HasEntry r j) (few : block_count r j ≤ max_blocks) where
+module _ (r : List ℕ) (j : ℕ) (x : HasEntry r j) (h : HasTask r j) where
   is : entry_of r j ≡ bytes_entry r j
-  is = entry_by_bytes r j x few
+  is = entry_by_bytes r j x h.few
 
-  -- an entry that rises and whose blocks are a task's
-  pub passes_read : (ok : Bool) → ok ≡ ltb (prior 0 (book_of r) j) (entry_of r j).number → ok ≡ true → sized (blocks_of r j) ≡ true → Passes r j
-  passes_read ok e t z =
-      let h = sym e ∙ t in
-      record { rises = omega tests; some_blocks = omega (arith, blocks_length r j x few, (sized_to (blocks_of r j) z).some_blocks, (sized_to (blocks_of r j) z).whole); few_blocks = few }
+  -- how long its task is
+  pub task_length : (e : Running) → e ≡ bytes_entry r j → length e.task ≡ block_size * block_count r j
+  task_length e i = rw i (blocks_length r j x h.few)
 
-  pub refused_fit : (ok : Bool) → ok ≡ (let e = bytes_entry r j in fits (device_of r) (take j (book_of r)) e.task e.column e.bottom) → ok ≡ false → sound r ≡ false
+  refused_fit : (ok : Bool) → ok ≡ (let e = bytes_entry r j in fits (device_of r) (take j (book_of r)) e.task e.column e.bottom) → ok ≡ false → sound r ≡ false
   refused_fit ok e f = is_false (sound r) (λ s. clash (sound_fits r j x s) (sym e ∙ f))
 
   -- ---- one task more
@@ -86,34 +74,36 @@ module _ (r : List ℕ) (j : ℕ) (x : HasEntry r j) (few : block_count r j ≤ 
     small : y.number < words
     small = omega (arith, number_said r j x.runs, small_word r (entry_at j) B)
 
-    pub held_next : (U : List ℕ) → well_formed (blocks_of r j) ≡ true → RestZero r j
-        → (let e = bytes_entry r j in TaskMarked (device_of r) H e.task e.column e.bottom U true) → TasksHeld r U (j + 1)
+    held_next : (U : List ℕ) → RestZero r j → (let e = bytes_entry r j in TaskMarked (device_of r) H e.task e.column e.bottom U true) → TasksHeld r U (j + 1)
     unfolding covered placed
-    held_next U w z k =
+    held_next U z k =
         let f : fits d (take j b) y.task y.column y.bottom ≡ true = rw is (sym (k.answers (take j b) m.shown)) in
         record {
           limits = rw more at (insert_within d (take j b) m.limits y (rw (length-take-le j b (omega (arith, in_book r j x))) (omega (arith, x.few, x.runs)))
               (record {
                 number_one = omega (arith, t.rises);
                 number = omega (arith, small);
-                sized = rw is (blocks_sized r j x t.some_blocks few);
-                well_formed = rw is w;
+                sized = rw is h.sized;
+                well_formed = rw is h.well_formed;
                 fits = ((fits_split d (take j b) y.task y.column y.bottom).0 f).0;
               })
               (λ g i q. omega (arith, below_number g i)) f);
           shown = λ c i n u v o.
-              let h = k.marks (take j b) m.shown refl c i n u v o in
+              let a = k.marks (take j b) m.shown refl c i n u v o in
               let z = height (kind d c) * i + n in
               let e = ap (λ (e : Running). covered (standing e) c z) is in
-              rw (← more) (h ∙ or_comm (held (take j b) c z) (covered (standing (bytes_entry r j)) c z) ∙ ap (λ (t : Bool). t || held (take j b) c z) (sym e) ∙ sym (held_insert c z y (take j b)));
+              rw (← more) (a ∙ or_comm (held (take j b) c z) (covered (standing (bytes_entry r j)) c z) ∙ ap (λ (t : Bool). t || held (take j b) c z) (sym e) ∙ sym (held_insert c z y (take j b)));
           rests = below_more _ j m.rests z;
           some_blocks = below_more _ j m.some_blocks t.some_blocks;
-          few_blocks = below_more _ j m.few_blocks few;
+          few_blocks = below_more _ j m.few_blocks h.few;
         }
 
-    pub step_entry : (U : List ℕ) (ok : Bool) → well_formed (blocks_of r j) ≡ true → RestZero r j
-        → (let e = bytes_entry r j in TaskMarked (device_of r) H e.task e.column e.bottom U ok) → Judged r (TasksHeld r U (j + 1)) ok
-    step_entry U ok w z k = record {
-      holds = λ e. held_next U w z (rw e at k);
-      refused = λ e. refused_fit ok (k.answers (take j b) m.shown) e;
-    }
+    -- THEOREM: where entry j's task is marked it is held, and where it does not fit the record is not sound
+    pub step_entry : (e : Running) → e ≡ bytes_entry r j → RestZero r j → (U : List ℕ) (ok : Bool)
+        → TaskMarked (device_of r) H e.task e.column e.bottom U ok → Judged r (TasksHeld r U (j + 1)) ok
+    step_entry e i z U ok w =
+        let k : (let e = bytes_entry r j in TaskMarked (device_of r) H e.task e.column e.bottom U ok) = rw i at w in
+        record {
+          holds = λ e. held_next U z (rw e at k);
+          refused = λ e. refused_fit ok (k.answers (take j b) m.shown) e;
+        }

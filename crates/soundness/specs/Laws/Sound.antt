@@ -36,20 +36,8 @@ use Rattle.soundness.specs.Soundness.{TasksHeld, ColumnsOk, Unused}
 use Rattle.soundness.specs.Laws.Unused.{sound_unused}
 use Rattle.soundness.specs.Laws.Columns.{kinds_counted, all_within, sound_column}
 
--- ---- the length, the device and the number of tasks
-
-module _ (r : List ℕ) where
-  pub refused_length : (length r ≡ record_size → ⊥) → false ≡ sound r
-  refused_length h = sym (is_false (sound r) (λ s. h (sound_length r s)))
-
-  pub refused_device : (ok : Bool) → ok ≡ device_ok (device_of r) → ok ≡ false → false ≡ sound r
-  refused_device ok e f = sym (is_false (sound r) (λ s. clash (within_device (device_of r) (book_of r) (sound_within r s)) (sym e ∙ f)))
-
-  pub refused_running : max_running < get_or r running_at 0 → false ≡ sound r
-  refused_running h = sym (is_false (sound r) (λ s. omega (arith, (clauses_to r s).few_running)))
-
-  pub refused_unused : ¬ Unused r → false ≡ sound r
-  refused_unused h = sym (is_false (sound r) (λ s. h (sound_unused r s)))
+pub refused_unused : (r : List ℕ) → ¬ Unused r → false ≡ sound r
+refused_unused r h = sym (is_false (sound r) (λ s. h (sound_unused r s)))
 
 -- ---- all of it together
 
