@@ -73,8 +73,9 @@ pub fn declared(source: &str, name: &str) -> bool {
 }
 
 /// Words that stand before the name where it is declared.
-const BEFORE: [&str; 12] = [
+const BEFORE: [&str; 13] = [
     "pub",
+    "pub(crate)",
     "abbrev",
     "unfoldable",
     "record",
