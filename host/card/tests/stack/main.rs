@@ -13,13 +13,13 @@ const KIB: usize = 1024;
 /// What `card_new` needs at most; its frames take 56 bytes.
 const NEW_STACK: usize = 8 * KIB;
 
-/// What `card_fragmentation` needs at most; its frames take 38,056 bytes, 8 KiB of them for the sets of intervals.
+/// What `card_fragmentation` needs at most; its frames take 38,088 bytes, 8 KiB of them for the sets of intervals.
 const FRAGMENTATION_STACK: usize = 44 * KIB;
 
 /// What every other call needs at most; the frames of choose, the deepest, take 30,456 bytes.
 const CALL_STACK: usize = 36 * KIB;
 
-/// Left over for memcpy and memset, and for a dynamic linker that looks them up at their first call.
+/// Left over for memcpy, memmove and memset, and for a dynamic linker that looks them up at their first call.
 const C_LIBRARY: usize = 4 * KIB;
 
 /// What a call, by its exported name, needs at most.
