@@ -33,11 +33,10 @@ pub const OUTPUT_ROOM: usize = line::LINE_ROOM * (model::LIST_ROOM / model::RANG
 // What the start or a turn prints.
 pub type Output = ArrayString<OUTPUT_ROOM>;
 
-// A card's record, a draft task, and room for a listing.
+// A card's record and a draft task.
 #[derive(Drop)]
 pub struct Desk {
     pub card: [u8; model::RECORD_SIZE],
     pub draft: Draft,
-    pub listing: [u8; model::LIST_ROOM],
     ghost is_card: { Card card },
 }

@@ -22,7 +22,6 @@ pub fn start<'a>(input: &'a [u8], out: &mut Output) -> Option<(Desk, Stand<'a>)>
             let desk = Desk {
                 card,
                 draft: Draft::new(),
-                listing: [0u8; model::LIST_ROOM],
             };
             Some((desk, stand))
         }

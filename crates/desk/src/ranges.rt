@@ -11,7 +11,7 @@ ghost use Rattle.desk.specs.Desk.{output_room, desk_of, range_at, range_line};
 use crate::output::say;
 use crate::{Desk, Output};
 use line::print::OutputLine;
-use model::{RANGE_FIRST_AT, RANGE_LAST_AT, RANGE_SIZE, RANGE_STEP_AT};
+use model::{LIST_ROOM, RANGE_FIRST_AT, RANGE_LAST_AT, RANGE_SIZE, RANGE_STEP_AT};
 use words::get16;
 
 // The lines of output of the first `count` ranges of a listing.
@@ -43,8 +43,9 @@ impl Desk {
         ensures shows { out.new.bytes ≡ (on_call number (desk_of self.old.card self.old.draft.bytes.items) list_draft).printed }
     {
         let draft = &self.draft;
-        match card::list(&self.card, draft.bytes.as_slice(), &mut self.listing) {
-            Ok(count) => print_ranges(&self.listing, count, number, out),
+        let mut listing = [0u8; LIST_ROOM];
+        match card::list(&self.card, draft.bytes.as_slice(), &mut listing) {
+            Ok(count) => print_ranges(&listing, count, number, out),
             Err(refusal) => say(out, number, i32::from(refusal)),
         }
     }

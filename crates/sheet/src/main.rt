@@ -67,8 +67,9 @@ fn tell<R: Eprint + AllocGlobal>(rt: &R, end: &str, fault: io::Error) -> io::Res
 }
 
 fn main(rt: HostRuntime) -> io::Result<()> {
-    let mut input = [0u8; desk::INPUT_ROOM];
-    match read(&mut rt.stdin(), &mut input) {
+    // Not on the stack, most of which the output takes.
+    let mut input = vec![in rt.alloc(); 0u8; desk::INPUT_ROOM]?;
+    match read(&mut rt.stdin(), input.as_mut_slice()) {
         Err(fault) => tell(&rt, "standard input", fault),
         Ok(n) => match run(&rt, &input[..n]) {
             Err(fault) => tell(&rt, "standard output", fault),
