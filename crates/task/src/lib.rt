@@ -2,31 +2,29 @@
 // The model's definitions are those of model/specs/Tasks.antt; specs/ here ties the code's blocks to the model's.
 #![tactic(auto)]
 
-ghost use Rattle.std.specs.Prelude.{◌≡◌, true, false, ◌+◌, ◌*◌, ◌≤◌, ◌<◌, ◌↔◌, length, get_or, IfOk, IsErrOf};
-ghost use Rattle.model.specs.Limits.{block_size, max_blocks, words};
+ghost use Rattle.std.specs.Prelude.{◌≡◌, true, false, ◌+◌, ◌-◌, ◌*◌, ◌%◌, ◌^◌, ◌≤◌, ◌<◌, ◌↔◌, length, get_or, IsTrue, IfOk, IsErrOf};
+ghost use Rattle.model.specs.Limits.{block_size, max_blocks, reach, words};
 ghost use Rattle.model.specs.Columns.{height};
 ghost use Rattle.model.specs.Tasks.{lifted, block, blocks, sized, block_ok, follows, well_formed, step};
-ghost use Rattle.task.specs.Blocks.{seen, Same, SameExtent, Reads, starts};
+ghost use Rattle.task.specs.Blocks.{seen, rows_of, Same, SameExtent, Reads, starts};
 
+use column::Interval;
 use model::Kind;
 use words::get16;
 
-// MODEL 4.2 and 4.9: a block. Low and high are its bottom and top plus REACH, so that neither is negative.
+// MODEL 4.2 and 4.9: where a block is. Low and high are its bottom and top plus REACH, so that neither is negative.
 #[derive(Clone, Copy)]
-pub struct Block {
-    pub column: u32,
-    pub kind: Kind,
+pub struct Extent {
+    pub column: usize,
     pub low: u32,
     pub high: u32,
 }
 
-// MODEL 4.2 and 4.9: where a block is. Low and high are as in a block. Not a part of Block, which would be no plainer: each of its columns, lows and
-// highs would be named by one field more.
-#[derive(Drop)]
-pub struct Extent {
-    pub column: u32,
-    pub low: u32,
-    pub high: u32,
+// MODEL 4.2: a block.
+#[derive(Clone, Copy)]
+pub struct Block {
+    pub kind: Kind,
+    pub extent: Extent,
 }
 
 // MODEL 4.1 and 4.4: the bytes of a task that has the length of one and is well-formed.
@@ -47,8 +45,23 @@ pub enum TaskFault {
 // MODEL 6.1: where a task is placed: its first block's column, and what its blocks are moved up by.
 #[derive(Clone, Copy)]
 pub struct Position {
-    pub column: u32,
+    pub column: usize,
     pub bottom: u32,
+}
+
+impl Extent {
+    // MODEL 6.1: its half rows, where its task stands at a bottom.
+    pub fn rows_at(self, bottom: u32) -> Interval
+        requires low { reach ≤ bottom + self.low }
+        requires full { self.low ≤ self.high }
+        requires high { bottom + self.high < 2 ^ 32 }
+        ensures { result ≡ rows_of self bottom }
+    {
+        Interval {
+            bottom: bottom + self.low - model::REACH,
+            top: bottom + self.high - model::REACH,
+        }
+    }
 }
 
 impl Block {
@@ -64,11 +77,11 @@ impl Block {
     fn is_solid(self) -> bool
         ensures { result ≡ block_ok (seen self) }
     {
-        // `as`: a constant that fits. std has no From for it.
-        self.column < model::MAX_COLUMNS as u32
-            && self.low < self.high
-            && self.high <= 2 * model::REACH
-            && (self.high - self.low) % self.height() == 0
+        let Extent { column, low, high } = self.extent;
+        column < model::MAX_COLUMNS
+            && low < high
+            && high <= 2 * model::REACH
+            && self.kind.whole(high - low)
     }
 
     // MODEL 4.6 and 4.7: whether it may come right after `last`.
@@ -76,8 +89,19 @@ impl Block {
     fn follows(self, last: Block) -> bool
         ensures { result ≡ follows (seen last) (seen self) }
     {
-        last.column < self.column
-            || (last.column == self.column && last.kind == self.kind && last.high < self.low)
+        let below = last.extent;
+        let above = self.extent;
+        below.column < above.column
+            || (below.column == above.column && last.kind == self.kind && below.high < above.low)
+    }
+
+    // MODEL 6.3: whether it is on the grid of its kind, and not below the device, where its task stands at a bottom.
+    pub fn on_grid(self, bottom: u32) -> bool
+        requires { bottom + self.extent.low < 2 ^ 32 }
+        ensures { IsTrue result ↔ ((reach ≤ bottom + self.extent.low) × ((bottom + self.extent.low - reach) % height (seen self).kind ≡ 0)) }
+    {
+        let low = bottom + self.extent.low;
+        model::REACH <= low && self.kind.whole(low - model::REACH)
     }
 }
 
@@ -150,7 +174,7 @@ pub fn extent_at(task: &[u8], i: usize) -> Extent
 {
     let at = model::BLOCK_SIZE * i;
     Extent {
-        column: u32::from(task[at]),
+        column: usize::from(task[at]),
         low: lift(get16(task, at + model::BLOCK_BOTTOM_AT)),
         high: lift(get16(task, at + model::BLOCK_TOP_AT)),
     }
@@ -164,12 +188,9 @@ pub fn read_block(task: &[u8], i: usize) -> Option<Block>
 {
     let at = model::BLOCK_SIZE * i;
     let kind = Kind::try_from(task[at + model::BLOCK_KIND_AT]).ok()?;
-    let extent = extent_at(task, i);
     Some(Block {
-        column: extent.column,
         kind,
-        low: extent.low,
-        high: extent.high,
+        extent: extent_at(task, i),
     })
 }
 

@@ -12,7 +12,7 @@ use Rattle.task.specs.Blocks.{seen, Same}
 
 -- what has the model's numbers is the model's block
 pub same_seen : (b : Block) (m : model.Block) → Same b m → seen b ≡ m
-same_seen b m s = rw (s.column, s.kind, s.low, s.high)
+same_seen b m s = rw (s.kind, s.extent.column, s.extent.low, s.extent.high)
 
 -- a block stands whole in its task
 pub block_within : (t : List ℕ) (i : ℕ) → i < blocks t → block_size * i + block_size ≤ length t
