@@ -1,5 +1,5 @@
 -- MODEL 12.4 and 12.5: what the contract of `edit_block` says of the edit that it is given, and of a block that is read. Assumes nothing.
-use Rattle.std.specs.Prelude.{ℕ, ◌+◌, ◌-◌, ◌*◌, ◌≤◌, ◌<◌, ◌≡◌, List}
+use Rattle.std.specs.Prelude.{ℕ, ◌+◌, ◌*◌, ◌≤◌, ◌<◌, ◌≡◌, List}
 use Rattle.std.specs.Borrow.{MutBor}
 use Rattle.std.specs.Fn.{Once}
 use Rattle.model.specs.Limits.{max_rows, max_columns, reach}
@@ -21,11 +21,7 @@ module _ {F : Type 0} (g : Once F (MutBor (List ℕ) × (ℕ × (Interval × Uni
 
 -- a block of a task that fits at column p and bottom y, so that it can be moved there
 pub record Seated (p y : ℕ) (n : Block) : Type 0 where
-  pub column : p + n.column < max_columns
-  pub low : reach ≤ y + n.low
-  pub full : n.low < n.high
-  pub high : y + n.high ≤ 2 * max_rows + reach
-
--- where its half rows are
-abbrev pub run_of : Block → ℕ → Interval
-run_of n y = record { bottom = y + n.low - reach; top = y + n.high - reach }
+  pub column : p + n.extent.column < max_columns
+  pub low : reach ≤ y + n.extent.low
+  pub full : n.extent.low < n.extent.high
+  pub high : y + n.extent.high ≤ 2 * max_rows + reach

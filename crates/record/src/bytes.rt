@@ -15,7 +15,8 @@ use std::ops::Range;
 use task::{Position, Task};
 use words::get16;
 
-// MODEL 8.2: where the part of column c stands.
+// MODEL 8.2: where the part of column c stands. That c is below the most columns is the bound of an index, here and where a column is asked for:
+// a type for it would be made anew from each number.
 pub fn part_at(c: usize) -> Range<usize>
     requires { c < max_columns }
     ensures start { result.start ≡ column_at c }
@@ -23,6 +24,21 @@ pub fn part_at(c: usize) -> Range<usize>
 {
     let a = INTERVALS_AT + COLUMN_SIZE * c;
     a..a + COLUMN_SIZE
+}
+
+// MODEL 8.2: where entry j stands, or where the entries end.
+pub fn entry_at(j: usize) -> usize
+    requires { j ≤ max_running }
+    ensures { result ≡ entry_at j }
+{
+    ENTRIES_AT + ENTRY_SIZE * j
+}
+
+// How many tasks run.
+pub fn running(record: &[u8; RECORD_SIZE]) -> usize
+    ensures { result ≡ get_or «record».now running_at 0 }
+{
+    usize::from(record[RUNNING_AT])
 }
 
 // MODEL 5.1: a running task: its number, its position, and its bytes.
@@ -33,69 +49,70 @@ pub struct Entry<'a> {
     pub task: Task<'a>,
 }
 
-// How many tasks run.
-pub fn running(record: &[u8; RECORD_SIZE]) -> usize
-    ensures { result ≡ get_or «record».now running_at 0 }
-{
-    usize::from(record[RUNNING_AT])
+// MODEL 8.4: the bytes of entry j of a record.
+#[derive(Clone, Copy)]
+pub struct EntryBytes<'a> {
+    pub bytes: &'a [u8; RECORD_SIZE],
+    pub j: usize,
+    ghost room: { j < max_running },
 }
 
-// The number of entry j.
-pub fn number_at(record: &[u8; RECORD_SIZE], j: usize) -> u32
-    requires { j < max_running }
-    ensures { result ≡ word «record».now (entry_at j) }
-{
-    get16(record, ENTRIES_AT + ENTRY_SIZE * j)
-}
-
-// The position of entry j.
-pub fn position_at(record: &[u8; RECORD_SIZE], j: usize) -> Position
-    requires { j < max_running }
-    ensures column { result.column ≡ get_or «record».now (entry_at j + 2) 0 }
-    ensures bottom { result.bottom ≡ word «record».now (entry_at j + 4) }
-{
-    let at = ENTRIES_AT + ENTRY_SIZE * j;
-    Position {
-        column: u32::from(record[at + ENTRY_COLUMN_AT]),
-        bottom: get16(record, at + ENTRY_BOTTOM_AT),
+impl<'a> EntryBytes<'a> {
+    // Its number.
+    pub fn number(self) -> u32
+        ensures { result ≡ word self.entry.bytes.now (entry_at self.entry.j) }
+    {
+        let bytes = self.bytes;
+        get16(bytes, entry_at(self.j))
     }
-}
 
-// MODEL 21.5: the blocks of entry j, left where they stand in the record; none where they are more than an entry has room for.
-fn blocks_at(record: &[u8; RECORD_SIZE], j: usize) -> Option<&[u8]>
-    requires { j < max_running }
-    ensures { let a = entry_at j + blocks_at in MatchOption result (max_blocks < block_count «record».now j) (λ b. (block_count «record».now j ≤ max_blocks) × (b.now ≡ slice_range «record».now a (a + block_size * block_count «record».now j))) }
-{
-    let at = ENTRIES_AT + ENTRY_SIZE * j;
-    let count = usize::from(record[at + ENTRY_COUNT_AT]);
-    if count > MAX_BLOCKS {
-        return None;
+    // Its position.
+    pub fn position(self) -> Position
+        ensures column { result.column ≡ get_or self.entry.bytes.now (entry_at self.entry.j + 2) 0 }
+        ensures bottom { result.bottom ≡ word self.entry.bytes.now (entry_at self.entry.j + 4) }
+    {
+        let bytes = self.bytes;
+        let at = entry_at(self.j);
+        Position {
+            column: usize::from(bytes[at + ENTRY_COLUMN_AT]),
+            bottom: get16(bytes, at + ENTRY_BOTTOM_AT),
+        }
     }
-    let a = at + BLOCKS_AT;
-    let e = a + BLOCK_SIZE * count;
-    Some(&record[a..e])
-}
 
-// The task of entry j.
-pub fn task_at(record: &[u8; RECORD_SIZE], j: usize) -> Task<'_>
-    requires entry { j < max_running }
-    requires task { HasTask «record».now j }
-    ensures { result.bytes.now ≡ blocks_of «record».now j }
-{
-    Task {
-        bytes: blocks_at(record, j).unwrap(),
+    // MODEL 21.5: its blocks, left where they stand in the record; none where they are more than an entry has room for.
+    fn blocks(self) -> Option<&'a [u8]>
+        ensures { let r = self.entry.bytes.now in let n = block_count r self.entry.j in let a = entry_at self.entry.j + blocks_at in MatchOption result (max_blocks < n) (λ b. (n ≤ max_blocks) × (b.now ≡ slice_range r a (a + block_size * n))) }
+    {
+        let bytes = self.bytes;
+        let at = entry_at(self.j);
+        let count = usize::from(bytes[at + ENTRY_COUNT_AT]);
+        if count > MAX_BLOCKS {
+            return None;
+        }
+        let a = at + BLOCKS_AT;
+        let e = a + BLOCK_SIZE * count;
+        Some(&bytes[a..e])
     }
-}
 
-// MODEL 8.4, 9.3 and 9.5: entry j, where its blocks are those of a task.
-pub fn read_entry(record: &[u8; RECORD_SIZE], j: usize) -> Option<Entry<'_>>
-    requires { j < max_running }
-    ensures { ReadsEntry «record».now j result }
-{
-    let task = Task::read(blocks_at(record, j)?).ok()?;
-    Some(Entry {
-        number: number_at(record, j),
-        at: position_at(record, j),
-        task,
-    })
+    // Its task.
+    pub fn task(self) -> Task<'a>
+        requires { HasTask self.bytes.now self.j }
+        ensures { result.bytes.now ≡ blocks_of self.entry.bytes.now self.entry.j }
+    {
+        Task {
+            bytes: self.blocks().unwrap(),
+        }
+    }
+
+    // MODEL 8.4, 9.3 and 9.5: what it says, where its blocks are those of a task.
+    pub fn read(self) -> Option<Entry<'a>>
+        ensures { ReadsEntry self.entry.bytes.now self.entry.j result }
+    {
+        let task = Task::read(self.blocks()?).ok()?;
+        Some(Entry {
+            number: self.number(),
+            at: self.position(),
+            task,
+        })
+    }
 }

@@ -1,7 +1,7 @@
 // MODEL 12.3: the record of a new card, on which all cells are free and no task runs.
-ghost use Rattle.std.specs.Prelude.{◌≡◌, true, [], ◌∷◌, ◌+◌, ◌≤◌, ◌<◌, length, set};
+ghost use Rattle.std.specs.Prelude.{◌≡◌, true, [], ◌∷◌, ◌+◌, ◌≤◌, ◌<◌, set};
 ghost use Rattle.runs.specs.Intervals.{interval, piece};
-ghost use Rattle.model.specs.Limits.{max_rows, max_kind, words, record_size, kinds_at};
+ghost use Rattle.model.specs.Limits.{max_rows, max_kind, words, kinds_at};
 ghost use Rattle.model.specs.Columns.{top_in, device_ok};
 ghost use Rattle.model.specs.Record.{column_part, record_of};
 ghost use Rattle.model.specs.InPlace.{put_column};
@@ -34,11 +34,10 @@ fn open_column(record: &mut [u8; RECORD_SIZE], c: usize, rows: u32, kind: u8)
 }
 
 // Writes the record of a new card.
-pub fn clear(record: &mut [u8], rows: u32, kinds: &[u8])
-    requires { (length «record».old ≡ record_size) × (device_ok (record { rows = rows; kinds = kinds.now }) ≡ true) }
+pub fn clear(record: &mut [u8; RECORD_SIZE], rows: u32, kinds: &[u8])
+    requires { device_ok (record { rows = rows; kinds = kinds.now }) ≡ true }
     ensures { «record».new ≡ record_of (record { rows = rows; kinds = kinds.now }) [] }
 {
-    let record = record.as_mut_array().unwrap();
     record.fill(0);
     put16(record, ROWS_AT, rows);
     record[COLUMNS_AT] = kinds.len() as u8;

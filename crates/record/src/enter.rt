@@ -6,6 +6,7 @@ ghost use Rattle.model.specs.Book.{placed, fits};
 ghost use Rattle.model.specs.Calls.{insert};
 ghost use Rattle.model.specs.Record.{record_of, device_of, book_of};
 ghost use Rattle.model.specs.Sound.{sound, number_ok};
+ghost use Rattle.record.specs.Entries.{seen};
 ghost use Rattle.record.specs.Enter.{taken, Placeable};
 
 use crate::bytes::Entry;
@@ -26,16 +27,16 @@ fn take_blocks(record: &mut [u8; RECORD_SIZE], task: Task<'_>, at: Position)
     }
 }
 
-// Enters a task under a number at a position where it fits.
-pub fn enter(record: &mut [u8], task: Task<'_>, number: u32, at: Position)
+// Enters a task that fits where it is to stand.
+pub fn enter(record: &mut [u8], new: Entry<'_>)
     requires sound { sound «record».old ≡ true }
-    requires fits { fits (device_of «record».old) (book_of «record».old) task.bytes.now at.column at.bottom ≡ true }
-    requires numbered { number_ok number ≡ true }
+    requires fits { fits (device_of «record».old) (book_of «record».old) new.task.bytes.now new.at.column new.at.bottom ≡ true }
+    requires numbered { number_ok new.number ≡ true }
     requires room { length (book_of «record».old) < max_running }
-    ensures { «record».new ≡ record_of (device_of «record».old) (insert (record { number = number; column = at.column; bottom = at.bottom; task = task.entry.bytes.now }) (book_of «record».old)) }
+    ensures { «record».new ≡ record_of (device_of «record».old) (insert (seen new.entry) (book_of «record».old)) }
 {
-    let k = SoundRecord { bytes: record }.place_of(number);
+    let k = SoundRecord { bytes: record }.place_of(new.number);
     let record = record.as_mut_array().unwrap();
-    take_blocks(record, task, at);
-    insert_entry(record, k, Entry { number, at, task });
+    take_blocks(record, new.task, new.at);
+    insert_entry(record, k, new);
 }

@@ -6,13 +6,13 @@ ghost use Rattle.model.specs.Record.{padded, entry_bytes, entry_at, book_of};
 ghost use Rattle.model.specs.InPlace.{place};
 ghost use Rattle.record.specs.Entries.{found, seen, Entered, Removed};
 
-use crate::bytes;
+use crate::bytes::{Entry, EntryBytes, entry_at, running};
 use crate::checked::SoundRecord;
 use model::{
-    BLOCK_SIZE, BLOCKS_AT, ENTRIES_AT, ENTRY_BOTTOM_AT, ENTRY_COLUMN_AT, ENTRY_COUNT_AT,
-    ENTRY_SIZE, RECORD_SIZE, RUNNING_AT,
+    BLOCKS_AT, ENTRY_BOTTOM_AT, ENTRY_COLUMN_AT, ENTRY_COUNT_AT, ENTRY_SIZE, RECORD_SIZE,
+    RUNNING_AT,
 };
-use words::{get16, put16};
+use words::put16;
 
 impl<'a> SoundRecord<'a> {
     // The bytes, which are as many as a record has.
@@ -28,7 +28,7 @@ impl<'a> SoundRecord<'a> {
         ensures count { result ≡ length (book_of self.entry.bytes.now) }
         ensures few { result ≤ max_running }
     {
-        bytes::running(self.array())
+        running(self.array())
     }
 
     // Which entry has that number, if one has.
@@ -36,7 +36,11 @@ impl<'a> SoundRecord<'a> {
         ensures { result ≡ found number (book_of self.entry.bytes.now) }
     {
         let record = self.array();
-        (0..self.running()).find(|&j| bytes::number_at(record, j) == number)
+        (0..self.running()).find(
+            |&j|
+                requires { j < max_running }
+            { EntryBytes { bytes: record, j }.number() == number },
+        )
     }
 
     // The place that an entry of a number takes: behind all that have no higher number.
@@ -45,7 +49,7 @@ impl<'a> SoundRecord<'a> {
     {
         let record = self.array();
         for j in (0..self.running()).rev() {
-            if bytes::number_at(record, j) <= number {
+            if (EntryBytes { bytes: record, j }).number() <= number {
                 return j + 1;
             }
         }
@@ -54,7 +58,7 @@ impl<'a> SoundRecord<'a> {
 }
 
 // Writes a running task's entry.
-fn write_entry(part: &mut [u8], new: bytes::Entry<'_>)
+fn write_entry(part: &mut [u8], new: Entry<'_>)
     requires part { length part.old ≡ entry_size }
     requires number { new.number < words }
     requires column { new.at.column < 256 }
@@ -72,7 +76,7 @@ fn write_entry(part: &mut [u8], new: bytes::Entry<'_>)
 }
 
 // Puts a running task's entry in at place k: those from k on move up by one.
-pub(crate) fn insert_entry(record: &mut [u8; RECORD_SIZE], k: usize, new: bytes::Entry<'_>)
+pub(crate) fn insert_entry(record: &mut [u8; RECORD_SIZE], k: usize, new: Entry<'_>)
     requires place { k ≤ get_or «record».old running_at 0 }
     requires room { get_or «record».old running_at 0 < max_running }
     requires number { new.number < words }
@@ -80,10 +84,10 @@ pub(crate) fn insert_entry(record: &mut [u8; RECORD_SIZE], k: usize, new: bytes:
     requires bottom { new.at.bottom < words }
     ensures { Entered «record».old «record».new k (seen new.entry) }
 {
-    let n = bytes::running(record);
-    let a = ENTRIES_AT + ENTRY_SIZE * k;
+    let n = running(record);
+    let a = entry_at(k);
     let e = a + ENTRY_SIZE;
-    let end = ENTRIES_AT + ENTRY_SIZE * n;
+    let end = entry_at(n);
     record.copy_within(a..end, e);
     write_entry(&mut record[a..e], new);
     record[RUNNING_AT] = (n + 1) as u8;
@@ -95,9 +99,9 @@ pub(crate) fn remove_entry(record: &mut [u8; RECORD_SIZE], k: usize)
     requires few { get_or «record».old running_at 0 ≤ max_running }
     ensures { Removed «record».old «record».new k }
 {
-    let last = bytes::running(record) - 1;
-    let a = ENTRIES_AT + ENTRY_SIZE * k;
-    let z = ENTRIES_AT + ENTRY_SIZE * last;
+    let last = running(record) - 1;
+    let a = entry_at(k);
+    let z = entry_at(last);
     let end = z + ENTRY_SIZE;
     record.copy_within(a + ENTRY_SIZE..end, a);
     record[z..end].fill(0);

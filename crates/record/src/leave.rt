@@ -5,7 +5,7 @@ ghost use Rattle.model.specs.Record.{record_of, device_of, book_of};
 ghost use Rattle.model.specs.Sound.{sound};
 ghost use Rattle.record.specs.Leave.{Runs, freed_entry};
 
-use crate::bytes::{position_at, task_at};
+use crate::bytes::EntryBytes;
 use crate::checked::SoundRecord;
 use crate::edit::edit_block;
 use crate::entries::remove_entry;
@@ -17,9 +17,10 @@ fn free_blocks(record: &mut [u8; RECORD_SIZE], j: usize)
     requires { Runs «record».old j }
     ensures { «record».new ≡ freed_entry «record».old j }
 {
-    let at = position_at(record, j);
-    for k in 0..task_at(record, j).count() {
-        let block = task_at(record, j).block(k);
+    let at = EntryBytes { bytes: record, j }.position();
+    let count = EntryBytes { bytes: record, j }.task().count();
+    for k in 0..count {
+        let block = EntryBytes { bytes: record, j }.task().block(k);
         edit_block(record, block, at, join);
     }
 }

@@ -6,7 +6,7 @@ ghost use Rattle.model.specs.Sound.{sound};
 ghost use Rattle.record.specs.Entries.{entry_of, HasEntry};
 ghost use Rattle.record.specs.Rebuild.{prior, Ready, Tried, Rebuilt, Step};
 
-use crate::bytes::{Entry, number_at, read_entry, running};
+use crate::bytes::{Entry, EntryBytes, running};
 use crate::checked::SoundRecord;
 use crate::clear::clear;
 use crate::device::device_ok;
@@ -19,11 +19,16 @@ pub fn rises(record: &[u8; RECORD_SIZE], j: usize) -> bool
     requires { HasEntry «record».now j }
     ensures { result ≡ ltb (prior 0 (book_of «record».now) j) (entry_of «record».now j).number }
 {
-    let number = number_at(record, j);
+    let number = EntryBytes { bytes: record, j }.number();
     if j == 0 {
         return 0 < number;
     }
-    number_at(record, j - 1) < number
+    EntryBytes {
+        bytes: record,
+        j: j - 1,
+    }
+    .number()
+        < number
 }
 
 // MODEL 9.6: enters a task into the scratch record, if it fits there.
@@ -35,7 +40,7 @@ fn enter_task(scratch: &mut [u8; RECORD_SIZE], entry: Entry<'_>) -> bool
     if !card.fits(entry.task, entry.at) {
         return false;
     }
-    enter(scratch, entry.task, entry.number, entry.at);
+    enter(scratch, entry);
     true
 }
 
@@ -47,7 +52,7 @@ fn enter_entry(scratch: &mut [u8; RECORD_SIZE], record: &[u8; RECORD_SIZE], j: u
     if !rises(record, j) {
         return false;
     }
-    let Some(entry) = read_entry(record, j) else {
+    let Some(entry) = (EntryBytes { bytes: record, j }).read() else {
         return false;
     };
     enter_task(scratch, entry)

@@ -112,18 +112,18 @@ module _ (r : List ℕ) (j : ℕ) (x : Runs r j) (B : Bytes r) (s : List ℕ) (k
     pub seated : Seated p y n
     seated = seat (rw (at_column, at_bottom) (stands_in (device_of r) (book_of r) (sound_within r x.sound) (entry_of r j) here k l)) same_block
 
-    pub join_room : Joinable (y + n.low - reach) (y + n.high - reach) (part s (column_at (p + n.column)) column_size) (count_of s (p + n.column))
+    pub join_room : Joinable (y + n.extent.low - reach) (y + n.extent.high - reach) (part s (column_at (p + n.extent.column)) column_size) (count_of s (p + n.extent.column))
     unfolding placed
     join_room =
-        rw (same_block.column, same_block.low, same_block.high, at_column, at_bottom)
+        rw (same_block.extent.column, same_block.extent.low, same_block.extent.high, at_column, at_bottom)
         (freed_room (device_of r) (book_of r) (sound_within r x.sound) (entry_of r j) here s k e l)
 
-    pub block_freed : (q : List ℕ) → q ≡ put_column s (p + n.column) (unite (y + n.low - reach) (y + n.high - reach) (column_list s (p + n.column)))
+    pub block_freed : (q : List ℕ) → q ≡ put_column s (p + n.extent.column) (unite (y + n.extent.low - reach) (y + n.extent.high - reach) (column_list s (p + n.extent.column)))
         → q ≡ freed (device_of r) (book_of r) (standing (entry_of r j)) (k + 1)
     unfolding placed
     block_freed q h =
         rw add-one
-        ((rw (same_block.column, same_block.low, same_block.high, at_column, at_bottom) at h)
+        ((rw (same_block.extent.column, same_block.extent.low, same_block.extent.high, at_column, at_bottom) at h)
         ∙ freed_more (device_of r) (book_of r) (sound_within r x.sound) (entry_of r j) here s k e l)
 
 -- when all are freed

@@ -139,7 +139,9 @@ stands d a t p y r q s w f k l =
 
 -- and so as it was read
 pub seat : {t : List ℕ} {p y k : ℕ} {n : Read} → Stands t p y k → Same n (block t k) → Seated p y n
-seat x s = record { column = rw s.column x.column; low = rw s.low x.low; full = rw (s.low, s.high) x.full; high = rw s.high x.high }
+seat x s =
+    let e = s.extent in
+    record { column = rw e.column x.column; low = rw e.low x.low; full = rw (e.low, e.high) x.full; high = rw e.high x.high }
 
 -- ---- a column's part and count as an edit leaves them
 

@@ -43,18 +43,18 @@ module _ (r t : List ℕ) (p y : ℕ) (x : Placeable r t p y) where
     seated = seat (block_stands k l) same
 
     module _ (s : List ℕ) (e : s ≡ taken (device_of r) (book_of r) (placed t p y) k) where
-      pub cut_room : Room (subtract (y + n.low - reach) (y + n.high - reach)) (part s (column_at (p + n.column)) column_size) (count_of s (p + n.column))
+      pub cut_room : Room (subtract (y + n.extent.low - reach) (y + n.extent.high - reach)) (part s (column_at (p + n.extent.column)) column_size) (count_of s (p + n.extent.column))
       unfolding placed
       cut_room =
-          rw (same.column, same.low, same.high)
+          rw (same.extent.column, same.extent.low, same.extent.high)
           (taken_room (device_of r) (book_of r) (sound_within r x.sound) t x.sized x.well_formed p y x.fits s k e l)
 
-      pub block_taken : (q : List ℕ) → q ≡ put_column s (p + n.column) (subtract (y + n.low - reach) (y + n.high - reach) (column_list s (p + n.column)))
+      pub block_taken : (q : List ℕ) → q ≡ put_column s (p + n.extent.column) (subtract (y + n.extent.low - reach) (y + n.extent.high - reach) (column_list s (p + n.extent.column)))
           → q ≡ taken (device_of r) (book_of r) (placed t p y) (k + 1)
       unfolding placed
       block_taken q h =
           rw add-one
-          ((rw (same.column, same.low, same.high) at h)
+          ((rw (same.extent.column, same.extent.low, same.extent.high) at h)
           ∙ taken_more (device_of r) (book_of r) (sound_within r x.sound) t x.sized x.well_formed p y x.fits s k e l)
 
   -- ---- the entry, once all blocks are taken

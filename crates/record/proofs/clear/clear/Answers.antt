@@ -7,27 +7,27 @@ use Rattle.record.proofs.clear.clear.Goals as goal
 pub put16-requires : goal.put16-requires
 unfolding columns
 put16-requires c =
-    let b = bounds _ c.requires.1 in omega arith
+    let b = bounds _ c.requires in omega arith
 
 pub overflow_cast-record : goal.overflow_cast-record
 unfolding columns
 overflow_cast-record c =
-    let b = bounds _ c.requires.1 in omega arith
+    let b = bounds _ c.requires in omega arith
 
 pub loop-c-init : goal.loop-c-init
 unfolding columns
-loop-c-init c = opened_none _ c.unwrap-record.result.now _ _ (omega arith) (c.fill.ensures.after (λ y e. e)) c.put16.ensures
+loop-c-init c = opened_none _ c.args.record.now _ _ (omega arith) (c.fill.ensures.after (λ y e. e)) c.put16.ensures
 
 pub open_column-requires : goal.open_column-requires
 unfolding columns kind
 open_column-requires c =
-    let b = bounds _ c.requires.1 in
+    let b = bounds _ c.requires in
     (opened_closed _ _ _ c.loop-c.invariant (omega arith), b.rows, b.kinds c.loop-c.c)
 
 pub loop-c-preserved : goal.loop-c-preserved
 unfolding columns kind
 loop-c-preserved c =
-    let b = bounds _ c.requires.1 in
+    let b = bounds _ c.requires in
     rw (c.open_column.ensures, add-one) (opened_more _ _ _ c.loop-c.invariant (omega arith) _ refl (omega arith))
 
 pub returns : goal.returns

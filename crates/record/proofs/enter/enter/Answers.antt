@@ -12,16 +12,16 @@ unwrap-record-requires c = c.as_mut_array.ensures.variant.1 (sound_length _ c.re
 pub take_blocks-requires : goal.take_blocks-requires
 take_blocks-requires c =
     let same = (rw c.unwrap-record.ensures at c.as_mut_array.ensures.cases).same in
-    rw same (record { sound = c.requires.sound; sized = c.args.task.sized; well_formed = c.args.task.well_formed; fits = c.requires.fits })
+    rw same (record { sound = c.requires.sound; sized = c.args.new.task.sized; well_formed = c.args.new.task.well_formed; fits = c.requires.fits })
 
 -- once the blocks are taken
 ready : (c : goal.After-take_blocks)
     → (c.place_of-k.result ≤ get_or c.take_blocks.new.record running_at 0) × (get_or c.take_blocks.new.record running_at 0 < max_running)
-    × (c.args.number < words) × (c.args.at.column < 256) × (c.args.at.bottom < words)
+    × (c.args.new.number < words) × (c.args.new.at.column < 256) × (c.args.new.at.bottom < words)
 ready c =
     let same = (rw c.unwrap-record.ensures at c.as_mut_array.ensures.cases).same in
-    let x : Placeable c.args.record.now c.args.task.bytes.now c.args.at.column c.args.at.bottom =
-    record { sound = c.requires.sound; sized = c.args.task.sized; well_formed = c.args.task.well_formed; fits = c.requires.fits } in
+    let x : Placeable c.args.record.now c.args.new.task.bytes.now c.args.new.at.column c.args.new.at.bottom =
+    record { sound = c.requires.sound; sized = c.args.new.task.sized; well_formed = c.args.new.task.well_formed; fits = c.requires.fits } in
     entry_ready _ _ _ _ x _ (rw same at c.take_blocks.ensures) _ c.requires.numbered c.requires.room _ c.place_of-k.ensures
 
 pub insert_entry-requires-clause-place : goal.insert_entry-requires-clause-place
@@ -42,6 +42,6 @@ insert_entry-requires-clause-bottom c = (ready c).4
 pub returns : goal.returns
 returns c =
     let same = (rw c.unwrap-record.ensures at c.as_mut_array.ensures.cases).same in
-    let x : Placeable c.args.record.now c.args.task.bytes.now c.args.at.column c.args.at.bottom =
-    record { sound = c.requires.sound; sized = c.args.task.sized; well_formed = c.args.task.well_formed; fits = c.requires.fits } in
+    let x : Placeable c.args.record.now c.args.new.task.bytes.now c.args.new.at.column c.args.new.at.bottom =
+    record { sound = c.requires.sound; sized = c.args.new.task.sized; well_formed = c.args.new.task.well_formed; fits = c.requires.fits } in
     entered_record _ _ _ _ x _ (rw same at c.take_blocks.ensures) _ c.requires.numbered c.requires.room _ c.place_of-k.ensures _ c.insert_entry.ensures

@@ -5,7 +5,7 @@ use Rattle.model.specs.Limits.{column_size}
 use Rattle.model.specs.Record.{part, column_at}
 use Rattle.model.specs.Sound.{count_of}
 use Rattle.column.specs.Part.{Changed}
-use Rattle.record.specs.Edit.{run_of}
+use Rattle.task.specs.Blocks.{rows_of}
 use Rattle.record.specs.Laws.Columns.{put_changed}
 use Rattle.record.specs.Laws.Cut.{taken_none}
 use Rattle.record.specs.Laws.Enter.{seated, cut_room, block_taken}
@@ -22,16 +22,16 @@ edit_block-requires-clause-edits c = let m = cut_room _ _ _ _ c.requires c.loop-
 
 pub edit_block-requires-clause-few : goal.edit_block-requires-clause-few
 edit_block-requires-clause-few c = λ q n k.
-    let i = run_of c.block.result c.args.at.bottom in
-    let p = c.args.at.column + c.block.result.column in
+    let i = rows_of c.block.result.extent c.args.at.bottom in
+    let p = c.args.at.column + c.block.result.extent.column in
     let x : Changed (subtract i.bottom i.top) (part c.loop-k.record (column_at p) column_size) (count_of c.loop-k.record p) q n = search rules in
     let m = cut_room _ _ _ _ c.requires c.loop-k.k (omega arith) _ c.block.ensures _ c.loop-k.invariant in
     omega (arith, x.count_is, m.room)
 
 pub loop-k-preserved : goal.loop-k-preserved
 loop-k-preserved c =
-    let i = run_of c.block.result c.args.at.bottom in
-    let p = c.args.at.column + c.block.result.column in
+    let i = rows_of c.block.result.extent c.args.at.bottom in
+    let p = c.args.at.column + c.block.result.extent.column in
     let (q, n, k, e) = c.edit_block.ensures in
     let x : Changed (subtract i.bottom i.top) (part c.loop-k.record (column_at p) column_size) (count_of c.loop-k.record p) q n = search rules in
     block_taken _ _ _ _ c.requires c.loop-k.k (omega arith) _ c.block.ensures _ c.loop-k.invariant _ (e ∙ put_changed _ _ _ _ _ x)

@@ -11,4 +11,4 @@ unfolding splice
 returns c =
     let (to, below, above) = c.copy_within.ensures.by_index in
     let m = raised_within c.args.record.now c.copy_within.new.self c.args.k c.running-n.result _ _ _ c.told-record c.copy_within.ensures.len (omega arith) (omega arith) (omega arith) (omega arith) (omega arith) to below above in
-    entered_by _ _ _ _ _ _ _ c.running-n.ensures (omega arith) (omega arith) c.write_entry.ensures m (rw add-sub_cancel_left)
+    entered_by _ _ _ _ _ _ _ c.running-n.ensures (omega arith) (omega arith) c.write_entry.ensures m (rw (c.entry_at-a.ensures, add-sub_cancel_left))

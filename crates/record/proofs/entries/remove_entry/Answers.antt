@@ -18,4 +18,4 @@ returns c =
     let t = c.copy_within.new.self in
     let m = lowered_within c.args.record.now t c.args.k last _ _ _ c.told-record c.copy_within.ensures.len (omega arith) (omega arith) (omega arith) (omega arith) (omega arith) to below above in
     removed_by _ t _ _ last (take (a + entry_size - a) (drop a t)) _ (omega arith) (omega arith) (omega arith) m
-    (mid_len a (a + entry_size) t (omega (arith, c.copy_within.ensures.len)) ∙ add-sub_cancel_left a entry_size) (c.fill.ensures.after (λ y e. e)) (rw add-sub_cancel_left)
+    (mid_len a (a + entry_size) t (omega (arith, c.copy_within.ensures.len)) ∙ add-sub_cancel_left a entry_size) (rw c.entry_at-z.ensures at (c.fill.ensures.after (λ y e. e))) (rw (c.entry_at-z.ensures, add-sub_cancel_left))

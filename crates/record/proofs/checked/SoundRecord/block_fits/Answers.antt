@@ -13,17 +13,17 @@ overflow_add-c c = let x = solid_seen _ _ _ c.args.task.well_formed c.requires.b
 pub on_grid-requires : goal.on_grid-requires
 on_grid-requires c = let x = solid_seen _ _ _ c.args.task.well_formed c.requires.block c.block-block.ensures in omega (arith, x.full, x.below)
 
-pub run_at-requires-clause-low : goal.run_at-requires-clause-low
-run_at-requires-clause-low c = elim c.if-has_kind.branch [
+pub rows_at-requires-clause-low : goal.rows_at-requires-clause-low
+rows_at-requires-clause-low c = elim c.if-has_kind.branch [
   | then-has_kind w ↦ (w.on_grid.ensures.0 (sym w.value-is ∙ c.if-on_grid.true)).0
   | else-has_kind w ↦ clash c.if-on_grid.true (w.value-is ∙ w.if-has_kind.false)
 ]
 
-pub run_at-requires-clause-full : goal.run_at-requires-clause-full
-run_at-requires-clause-full c = let x = solid_seen _ _ _ c.args.task.well_formed c.requires.block c.block-block.ensures in omega (arith, x.full)
+pub rows_at-requires-clause-full : goal.rows_at-requires-clause-full
+rows_at-requires-clause-full c = let x = solid_seen _ _ _ c.args.task.well_formed c.requires.block c.block-block.ensures in omega (arith, x.full)
 
-pub run_at-requires-clause-high : goal.run_at-requires-clause-high
-run_at-requires-clause-high c = let x = solid_seen _ _ _ c.args.task.well_formed c.requires.block c.block-block.ensures in omega (arith, x.below)
+pub rows_at-requires-clause-high : goal.rows_at-requires-clause-high
+rows_at-requires-clause-high c = let x = solid_seen _ _ _ c.args.task.well_formed c.requires.block c.block-block.ensures in omega (arith, x.below)
 
 pub holds-requires : goal.holds-requires
 holds-requires c = elim c.if-has_kind.branch [
@@ -38,7 +38,7 @@ returns-then-on_grid c =
       | then-has_kind w ↦
           let (q, e) = c.has_kind.ensures.0 w.if-has_kind.true in
           let (a, g) = w.on_grid.ensures.0 (sym w.value-is ∙ c.if-on_grid.true) in
-          held_block _ _ _ _ _ x.full q e a g (rw c.run_at.ensures at c.holds.ensures)
+          held_block _ _ _ _ _ x.full q e a g (rw c.rows_at.ensures at c.holds.ensures)
       | else-has_kind w ↦ clash c.if-on_grid.true (w.value-is ∙ w.if-has_kind.false)
     ])
 

@@ -3,9 +3,9 @@ use Rattle.std.proofs.Common.{◌≡◌, ◌-◌, arith}
 use Rattle.record.specs.Laws.Entries.{place_said}
 use Rattle.record.proofs.checked.SoundRecord.place_of.Goals as goal
 
-pub returns-then-number_at-number : goal.returns-then-number_at-number
-returns-then-number_at-number c =
-    let n = rw c.array-record.ensures at c.number_at.ensures in
+pub returns-then-number : goal.returns-then-number
+returns-then-number c =
+    let n = rw c.array-record.ensures at c.number.ensures in
     place_said _ _ _ c.args.self.sound (omega (arith, c.running-j.ensures.count)) (λ i e. let k : i ≡ c.loop-j.j - 1 = omega arith in rw k (omega arith)) (λ i p q. c.loop-j.invariant i (omega arith) q)
 
 pub returns : goal.returns
