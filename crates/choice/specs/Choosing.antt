@@ -13,6 +13,7 @@ use Rattle.model.specs.Calls.{choose, on_book}
 use Rattle.model.specs.Homes.{bit, holder, home, adds, first_span, Room}
 use Rattle.column.specs.declared.Interval.{Interval as Rows}
 use Rattle.task.specs.declared.Extent.{Extent}
+use Rattle.task.specs.Blocks.{rows_of}
 use Rattle.choice.specs.Bounds.{max_pieces, max_stretch}
 use Rattle.choice.specs.declared.score.Choice.{Choice}
 use Rattle.choice.specs.declared.tally.Place.{Place}
@@ -24,6 +25,10 @@ use Rattle.choice.specs.declared.tally.Tally.{Tally}
 -- the half rows of i in column c, as the code has them
 abbrev pub place_at : ℕ → Interval → Place
 place_at c i = record { column = c; rows = record { bottom = i.bottom; top = i.top } }
+
+-- MODEL 6.1: where the block x is, with its task at column p, bottom y
+abbrev pub moved : Extent → ℕ → ℕ → Place
+moved x p y = record { column = p + x.column; rows = rows_of x y }
 
 -- a block that is not empty stands on a device within the limits, with the task at column p, bottom y
 pub record OnDevice (x : Extent) (p y : ℕ) : Type 0 where

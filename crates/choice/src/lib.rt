@@ -41,7 +41,7 @@ fn rise(room: u32, step: u32) -> u32
 
 impl Search<'_> {
     // The better of the best so far and the bottoms of a range.
-    fn climb_range(self, column: u32, range: Range, mut best: Option<Choice>) -> Option<Choice>
+    fn climb_range(self, column: usize, range: Range, mut best: Option<Choice>) -> Option<Choice>
         requires { FitsRange (device_of self.record.bytes.now) (book_of self.record.bytes.now) self.task.bytes.now column range }
         ensures { Climbed (judge (device_of self.entry.record.bytes.now) (book_of self.entry.record.bytes.now) self.entry.task.bytes.now) column range.first (suc range.last) best result }
     {
@@ -60,11 +60,16 @@ impl Search<'_> {
     }
 
     // The better of the best so far and all positions of a column.
-    fn climb_column(self, column: u32, room: &mut Room, mut best: Option<Choice>) -> Option<Choice>
+    fn climb_column(
+        self,
+        column: usize,
+        room: &mut Room,
+        mut best: Option<Choice>,
+    ) -> Option<Choice>
         requires { column < max_columns }
         ensures { Climbed (judge (device_of self.entry.record.bytes.now) (book_of self.entry.record.bytes.now) self.entry.task.bytes.now) column 0 (half_rows (device_of self.entry.record.bytes.now)) best result }
     {
-        let ranges = column_ranges(self.record, self.task, column as usize, room);
+        let ranges = column_ranges(self.record, self.task, column, room);
         for run in ranges {
             let range = Range {
                 first: run.first,
@@ -89,7 +94,7 @@ pub fn best_position(record: SoundRecord, task: Task) -> Option<Choice>
     let mut room = Room::new();
     let mut best = None;
     for column in 0..record.columns() {
-        best = search.climb_column(column as u32, &mut room, best);
+        best = search.climb_column(column, &mut room, best);
     }
     best
 }

@@ -1,11 +1,10 @@
 // MODEL 11.1 to 11.3: the score of a position at which a task fits, block by block.
-ghost use Rattle.std.specs.Prelude.{◌≡◌, ◌+◌, ◌-◌, ◌*◌, ◌≤◌, ◌<◌, min, true, false};
+ghost use Rattle.std.specs.Prelude.{◌≡◌, ◌+◌, ◌*◌, ◌≤◌, true};
 ghost use Rattle.choice.specs.Bounds.{max_pieces, max_stretch};
-ghost use Rattle.runs.specs.Intervals.{interval};
-ghost use Rattle.model.specs.Limits.{max_rows, max_columns, reach};
+ghost use Rattle.model.specs.Limits.{max_rows};
 ghost use Rattle.model.specs.Book.{fits, intervals};
 ghost use Rattle.model.specs.Record.{device_of, book_of};
-ghost use Rattle.choice.specs.Choosing.{place_at, OnDevice, home_of, Stands, Housed, pieces_of, span_of, shared, Addable, Added, Scored};
+ghost use Rattle.choice.specs.Choosing.{moved, OnDevice, home_of, Stands, Housed, pieces_of, span_of, shared, Addable, Added, Scored};
 
 use crate::score::Score;
 use column::Interval;
@@ -18,7 +17,7 @@ const MOST_ROOM: u32 = 65535;
 // Half rows of a column: a block where it stands, or the free interval that holds it, its home (MODEL 11.1).
 #[derive(Clone, Copy)]
 struct Place {
-    column: u32,
+    column: usize,
     rows: Interval,
 }
 
@@ -40,14 +39,11 @@ impl Place {
     // MODEL 6.1: a block of a task that is placed.
     fn new(block: Extent, at: Position) -> Place
         requires { OnDevice block at.column at.bottom }
-        ensures { result ≡ place_at (at.column + block.column) (interval (at.bottom + block.low - reach) (at.bottom + block.high - reach)) }
+        ensures { result ≡ moved block at.column at.bottom }
     {
         Place {
             column: at.column + block.column,
-            rows: Interval {
-                bottom: at.bottom + block.low - model::REACH,
-                top: at.bottom + block.high - model::REACH,
-            },
+            rows: block.rows_at(at.bottom),
         }
     }
 
@@ -57,7 +53,7 @@ impl Place {
         ensures home { result ≡ home_of (intervals (device_of «record».entry.bytes.now) (book_of «record».entry.bytes.now)) self }
         ensures housed { Housed self.rows result.rows }
     {
-        let found = record.column(self.column as usize).holder(self.rows);
+        let found = record.column(self.column).holder(self.rows);
         Place {
             column: self.column,
             rows: found.unwrap(),

@@ -32,7 +32,7 @@ fn on_columns(record: SoundRecord, task: Task, p: usize) -> bool
 {
     for k in 0..task.count() {
         let b = task.block(k);
-        if !of_kind(record, p + b.column as usize, b.kind) {
+        if !of_kind(record, p + b.extent.column, b.kind) {
             return false;
         }
     }
@@ -84,7 +84,7 @@ fn meet_next(
     ensures { Standing (device_of «record».entry.bytes.now) (book_of «record».entry.bytes.now) task.entry.bytes.now p (k + 1) result met.new }
 {
     let b = task.block(k);
-    let column = record.column(p + b.column as usize);
+    let column = record.column(p + b.extent.column);
     meet_block(column, b, step, list, met);
     runs::lcm(step, b.height())
 }

@@ -15,12 +15,12 @@ use task::Block;
 
 // The lifted bottoms at which a block stands in an interval.
 fn bottoms_in(b: Block, i: Interval) -> Range
-    requires { (i.top ≤ 2 * max_rows) × (i.bottom ≤ i.top) × (b.high ≤ 2 * reach) × (b.low ≤ b.high) }
-    ensures { result ≡ range_in b.low b.high (height (seen b).kind) i.bottom i.top }
+    requires { (i.top ≤ 2 * max_rows) × (i.bottom ≤ i.top) × (b.extent.high ≤ 2 * reach) × (b.extent.low ≤ b.extent.high) }
+    ensures { result ≡ range_in b.extent.low b.extent.high (height (seen b).kind) i.bottom i.top }
 {
     Range {
-        first: i.bottom + LIFT + model::REACH - b.low,
-        last: i.top + LIFT + model::REACH - b.high,
+        first: i.bottom + LIFT + model::REACH - b.extent.low,
+        last: i.top + LIFT + model::REACH - b.extent.high,
         step: b.height(),
     }
 }
@@ -35,7 +35,7 @@ pub fn meet_block(column: Column, b: Block, step: u32, list: &[Run], met: &mut R
     let mut j: usize = 0;
     while i < list.len() && j < column.count {
         let free = column.interval(j);
-        if free.top - free.bottom < b.high - b.low {
+        if free.top - free.bottom < b.extent.high - b.extent.low {
             j += 1;
             continue;
         }

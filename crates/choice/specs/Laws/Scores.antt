@@ -4,8 +4,8 @@ use Rattle.std.specs.Prelude.{◌≡◌, refl, Bool, List}
 use Rattle.std.proofs.Common.{sym, ◌∙◌}
 use Rattle.std.proofs.Math.Bool.{true, false}
 use native.Mathlib.Omega.{arith}
-use Rattle.runs.specs.Intervals.{Interval, interval}
-use Rattle.model.specs.Limits.{max_rows, max_blocks, words, reach}
+use Rattle.runs.specs.Intervals.{Interval}
+use Rattle.model.specs.Limits.{max_rows, max_blocks, words}
 use Rattle.model.specs.Bounded.{sum_below}
 use Rattle.model.specs.Columns.{Device, columns}
 use Rattle.model.specs.Tasks.{blocks, block, well_formed}
@@ -20,7 +20,7 @@ use Rattle.task.specs.declared.Extent.{Extent}
 use Rattle.task.specs.Blocks.{SameExtent}
 use Rattle.listing.specs.Columns.{Given}
 use Rattle.column.specs.declared.Interval.{Interval as Read}
-use Rattle.choice.specs.Choosing.{place_at, Stands, home_of, shared, span_of, Addable, Added, Rated, Scoring, Scored}
+use Rattle.choice.specs.Choosing.{moved, place_at, Stands, home_of, shared, span_of, Addable, Added, Rated, Scoring, Scored}
 use Rattle.choice.specs.Laws.Homes.{block_of, home_at, joined_shared, shared_is, housed, on_device}
 use Rattle.choice.specs.declared.tally.Place.{Place}
 use Rattle.choice.specs.declared.tally.Rating.{Rating}
@@ -67,7 +67,7 @@ module _ (B : Placed) (L : ℕ → List Interval) where
 
 -- one block more of a task that fits
 module _ (r t : List ℕ) (a : Given r t) (p y k : ℕ) (f : fits (device_of r) (book_of r) t p y ≡ true) (l : k < blocks t) (x : Extent) (s : SameExtent x (block t k))
-    (b : Place) (e : b ≡ place_at (p + x.column) (interval (y + x.low - reach) (y + x.high - reach))) where
+    (b : Place) (e : b ≡ moved x p y) where
   free : Free (placed t p y) (columns (device_of r)) (intervals (device_of r) (book_of r))
   free = stands (device_of r) (book_of r) t a.formed p y f
 

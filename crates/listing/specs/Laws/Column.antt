@@ -64,12 +64,12 @@ module _ (r t : List ℕ) (g : Given r t) where
 
 -- whether each block has a column of its kind, block by block
 module _ (r t : List ℕ) (p k : ℕ) where
-  module _ (l : k < blocks t) (b : Block) (s : Same b (block t k)) (q : Bool) (o : OfKind r (p + b.column) (number_of b.kind) q) where
+  module _ (l : k < blocks t) (b : Block) (s : Same b (block t k)) (q : Bool) (o : OfKind r (p + b.extent.column) (number_of b.kind) q) where
     pub on_next : ((j : ℕ) → j < k → On r t p j) → q ≡ true → (j : ℕ) → j < k + 1 → On r t p j
-    on_next h e j i = last_or (On r t p) k j (omega arith) (h j) (rw (s.column, s.kind) at (o.yes e))
+    on_next h e j i = last_or (On r t p) k j (omega arith) (h j) (rw (s.extent.column, s.kind) at (o.yes e))
 
     pub on_none : q ≡ false → OnAll r t p false
-    on_none e = record { yes = λ u. absurd (false≢true u); none = λ u. (k, l, λ (a, c). (rw (s.column, s.kind) at (o.none e)) a c) }
+    on_none e = record { yes = λ u. absurd (false≢true u); none = λ u. (k, l, λ (a, c). (rw (s.extent.column, s.kind) at (o.none e)) a c) }
 
   pub on_all : blocks t ≤ k → ((j : ℕ) → j < k → On r t p j) → OnAll r t p true
   on_all l h = record { yes = λ u j i. h j (omega arith); none = λ u. absurd (true≢false u) }
@@ -88,8 +88,8 @@ lent_lists r c p n s q e m = let x = clauses_to r s in rw (e, m, listed_lent r c
 -- ---- one block more
 
 -- the column of block k, as the code has it
-pub on_column : (r t : List ℕ) (p k : ℕ) (b : Block) → sound r ≡ true → On r t p k → Same b (block t k) → p + b.column < max_columns
-on_column r t p k b s on same = omega (arith, same.column, on.0, few_columns r s)
+pub on_column : (r t : List ℕ) (p k : ℕ) (b : Block) → sound r ≡ true → On r t p k → Same b (block t k) → p + b.extent.column < max_columns
+on_column r t p k b s on same = omega (arith, same.extent.column, on.0, few_columns r s)
 
 pub next_steps : {d : Device} {b : Book} {t : List ℕ} {p k s : ℕ} {L : List Run} → Standing d b t p k s L → (kind h : ℕ) → h ≡ height kind → Step s × Step h
 next_steps {d} {b} {t} {p} {k} {s} {L} g kind h e = (omega (arith, listed_step d b t p k s L g), rw e (height_step kind))
@@ -123,7 +123,7 @@ module _ (r t : List ℕ) (p k s : ℕ) (L : List Run) (given : Given r t) (next
       }
 
   -- in the intervals of the block's column, as the code reads them
-  module _ (I : List Interval) (e : I ≡ listed_intervals r (p + b.column)) where
+  module _ (I : List Interval) (e : I ≡ listed_intervals r (p + b.extent.column)) where
     pub meetable : Meetable I (seen b) L s
     meetable = rw e (subst (λ (a : model.Block). Meetable (listed_intervals r (p + a.column)) a L s) (sym (same_seen b (block t k) same)) meetable_block)
 

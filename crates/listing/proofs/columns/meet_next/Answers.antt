@@ -17,7 +17,7 @@ pub meet_block-requires : goal.meet_block-requires
 meet_block-requires c =
     meetable c.args.record.bytes.now c.args.task.bytes.now c.args.p c.args.k c.args.step c.args.list.now (given_of c.args.record c.args.task) c.requires.next
     (c.requires.on c.args.k c.requires.next) c.requires.listed c.block-b.result c.block-b.ensures (listed_in c.column-column.result.part.now c.column-column.result.count)
-    (lent_lists c.args.record.bytes.now (c.args.p + c.block-b.result.column) _ _ c.args.record.sound
+    (lent_lists c.args.record.bytes.now (c.args.p + c.block-b.result.extent.column) _ _ c.args.record.sound
     (on_column c.args.record.bytes.now c.args.task.bytes.now c.args.p c.args.k c.block-b.result c.args.record.sound (c.requires.on c.args.k c.requires.next) c.block-b.ensures)
     c.column-column.ensures.part c.column-column.ensures.count)
 
@@ -28,7 +28,7 @@ pub returns : goal.returns
 returns c =
     next_listed c.args.record.bytes.now c.args.task.bytes.now c.args.p c.args.k c.args.step c.args.list.now (given_of c.args.record c.args.task) c.requires.next
     (c.requires.on c.args.k c.requires.next) c.requires.listed c.block-b.result c.block-b.ensures (listed_in c.column-column.result.part.now c.column-column.result.count)
-    (lent_lists c.args.record.bytes.now (c.args.p + c.block-b.result.column) _ _ c.args.record.sound
+    (lent_lists c.args.record.bytes.now (c.args.p + c.block-b.result.extent.column) _ _ c.args.record.sound
     (on_column c.args.record.bytes.now c.args.task.bytes.now c.args.p c.args.k c.block-b.result c.args.record.sound (c.requires.on c.args.k c.requires.next) c.block-b.ensures)
     c.column-column.ensures.part c.column-column.ensures.count)
     _ c.height.result c.lcm.result c.meet_block.ensures c.height.ensures c.lcm.ensures
