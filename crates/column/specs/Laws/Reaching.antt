@@ -1,7 +1,9 @@
--- The first interval, from a number on, that ends at t or above it: what the search of `reaching` finds, and the loop. Assumes nothing.
-use Rattle.std.proofs.Common.{ℕ, zero, suc, ◌+◌, ◌*◌, ◌≤◌, ◌<◌, ◌≡◌, length, get_or, refl, sym, ap, ◌∙◌, inl, inr, add-one, List, [], ◌∷◌, arith, zero-add, le-leb, lt-ltb, le-ltb}
+-- The first interval, from a number on, that ends at t or above it: what the search of `reaching` finds. Assumes nothing.
+use Rattle.std.proofs.Common.{ℕ, zero, suc, ◌+◌, ◌-◌, ◌*◌, ◌≤◌, ◌<◌, ◌≡◌, length, get_or, refl, sym, ap, ◌∙◌, inl, inr, ◌⊎◌, Option, Some, None, List, [], ◌∷◌, arith, zero-add, le-leb, lt-ltb, le-ltb}
+use Rattle.std.specs.Option.{MatchOption, unwrap_or}
 use borrow.Author.Tests.{lt-leb}
 use Rattle.runs.specs.Intervals.{Interval, interval, Apart, Holds}
+use Rattle.runs.specs.Laws.Tests.{lt_or_ge}
 use Rattle.runs.specs.Laws.Intervals.{named_ge, holds_of}
 use Rattle.model.specs.Limits.{interval_size}
 use Rattle.model.specs.Tasks.{word}
@@ -78,22 +80,35 @@ module _ (p : List ℕ) (n : ℕ) where
   unfolding listed_in
   listed_at i l = rw zero-add at (from_at p none 0 n i l)
 
--- ---- `reaching`: from number i on it finds what it finds from number `from` on
+-- ---- `reaching`: those from number `from` on that end below t are passed over
 
-module _ (p : List ℕ) (n from t i : ℕ) (so_far : first_reaching i t (listed_in p n) ≡ first_reaching from t (listed_in p n)) where
-  module _ (q : i < n) (v : ℕ) (e : v ≡ word p (interval_size * i + 2)) where
-    top_is : (get_or (listed_in p n) i none).top ≡ v
-    unfolding interval_at
-    top_is = ap (λ (x : Interval). x.top) (listed_at p n i q) ∙ sym e
+module _ (p : List ℕ) (n from t : ℕ) where
+  top_is : (i : ℕ) → i < n → (get_or (listed_in p n) i none).top ≡ word p (interval_size * i + 2)
+  unfolding interval_at
+  top_is i q = ap (λ (x : Interval). x.top) (listed_at p n i q)
 
-    pub reached_here : t ≤ v → i ≡ first_reaching from t (listed_in p n)
-    reached_here h = sym (reached t none (listed_in p n) i (rw (listed_length p n) q) (rw top_is h)) ∙ so_far
+  abbrev pub PassedTo : ℕ → Type 0
+  PassedTo i = (k : ℕ) → from ≤ k → k < i → word p (interval_size * k + 2) < t
 
-    pub reached_later : v < t → first_reaching (i + 1) t (listed_in p n) ≡ first_reaching from t (listed_in p n)
-    reached_later h = rw add-one (sym (skipped t none (listed_in p n) i (rw (listed_length p n) q) (rw top_is h)) ∙ so_far)
+  passed_over : (m i : ℕ) → i ≡ from + m → i ≤ n → PassedTo i → first_reaching i t (listed_in p n) ≡ first_reaching from t (listed_in p n)
+  passed_over zero i e l h = let k : i ≡ from = omega arith in rw k
+  passed_over (suc m) i e l h =
+      let j = from + m in
+      let k : i ≡ suc j = omega arith in
+      rw k (sym (skipped t none (listed_in p n) j (rw (listed_length p n) (omega arith)) (rw (top_is j (omega arith)) (h j (omega arith) (omega arith)))) ∙ passed_over m j refl (omega arith) (λ x a b. h x a (omega arith)))
 
-  pub reached_none : n ≤ i → n ≡ first_reaching from t (listed_in p n)
-  reached_none h = sym (listed_length p n) ∙ sym (ended t none (listed_in p n) i (rw (listed_length p n) h)) ∙ so_far
+  pub reaching_found : (r : Option ℕ) → MatchOption r (PassedTo n) (λ i. (from ≤ i) × (i < n) × (t ≤ word p (interval_size * i + 2)) × PassedTo i)
+      → unwrap_or r n ≡ first_reaching from t (listed_in p n)
+  reaching_found None h = go (lt_or_ge n from)
+    where
+      end : (i : ℕ) → n ≤ i → n ≡ first_reaching i t (listed_in p n)
+      end i l = sym (listed_length p n) ∙ sym (ended t none (listed_in p n) i (rw (listed_length p n) l))
+
+      go : (n < from) ⊎ (from ≤ n) → n ≡ first_reaching from t (listed_in p n)
+      go (inl l) = end from (omega arith)
+      go (inr l) = end n (omega arith) ∙ passed_over (n - from) n (omega arith) (omega arith) h
+  reaching_found (Some i) (l, q, g, h) =
+      sym (reached t none (listed_in p n) i (rw (listed_length p n) q) (rw (top_is i q) g)) ∙ passed_over (i - from) i (omega arith) (omega arith) h
 
 -- ---- for callers
 

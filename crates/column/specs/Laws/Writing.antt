@@ -11,7 +11,7 @@ use Rattle.model.proofs.Laws.Record.{length_column}
 use Rattle.model.proofs.Laws.Slots.{slots_nil}
 use Rattle.model.proofs.Laws.ColumnPart.{column_push}
 use Rattle.column.specs.declared.Interval.{Interval as Read}
-use Rattle.column.specs.Part.{listed_from, listed_in, ReadAt, Holding, Wrote, Changed, Joinable, Short, sent, carried, merged, Absorbed}
+use Rattle.column.specs.Part.{listed_from, listed_in, ReadAt, Holding, Wrote, Joinable, Short, sent, carried, merged, Absorbed}
 use Rattle.column.specs.Laws.Reading.{listed_all, listed_end, listed_next}
 
 -- ---- what `push` and `keep` write
@@ -65,13 +65,6 @@ pub zeros : Holding (replicate column_size 0) 0 []
 unfolding column_part
 zeros = record { bytes_are = sym (slots_nil max_intervals interval_size); count_is = refl }
 
--- a copy of the part that was written
-pub copied : {f : List Interval → List Interval} {p o q : List ℕ} {n r : ℕ} → q ≡ o → Changed f p n o r → Changed f p n q r
-copied e c = record { bytes_are = e ∙ c.bytes_are; count_is = c.count_is }
-
-changed : {f : List Interval → List Interval} {p q : List ℕ} {n r : ℕ} → Holding q r (f (listed_in p n)) → Changed f p n q r
-changed h = record { bytes_are = h.bytes_are; count_is = h.count_is }
-
 -- ---- `cut`
 
 pub cut_next : {G : List Interval} {p o : List ℕ} {i n c : ℕ} {x : Read} (b t : ℕ) {lo hi : ℕ} → Writing G o c (subtract b t (listed_from p i (n - i)))
@@ -88,9 +81,9 @@ pub cut_start : {o : List ℕ} {c : ℕ} (b t : ℕ) (p : List ℕ) (n : ℕ) �
 cut_start b t p n h = rw (← listed_all p n) (start h)
 
 pub cut_end : {o : List ℕ} {i n r : ℕ} (b t : ℕ) (p : List ℕ) → n ≤ i → Writing (subtract b t (listed_in p n)) o r (subtract b t (listed_from p i (n - i)))
-    → Changed (subtract b t) p n o r
+    → Holding o r (subtract b t (listed_in p n))
 unfolding subtract
-cut_end b t p h w = changed (all_done (rw (listed_end p h) at w))
+cut_end b t p h w = all_done (rw (listed_end p h) at w)
 
 pub keep_room : {G : List Interval} {o : List ℕ} {n m : ℕ} (a b : ℕ) (R : List Interval) → Writing G o n (piece a b [] ++ R) → length G ≤ m → a < b → n < m
 keep_room a b R w h k = room w h (rw (piece_some a b [] k) (omega arith))
@@ -137,10 +130,10 @@ join_next {p = p} {i = i} {n = n} q r w a =
 pub join_room : {G : List Interval} {o : List ℕ} {n m : ℕ} (b t : ℕ) (L : List Interval) → Writing G o n (merged b t L) → length G ≤ m → n < m
 join_room b t L w h = room w h (merged_some b t L)
 
-pub join_end : {f : List Interval → List Interval} {o q : List ℕ} {i n c r : ℕ} (b t : ℕ) (p : List ℕ) → n ≤ i
-    → Writing (f (listed_in p n)) o c (merged b t (listed_from p i (n - i))) → Wrote o c (interval b t ∷ []) q r → Changed f p n q r
+pub join_end : {G : List Interval} {o q : List ℕ} {i n c r : ℕ} (b t : ℕ) (p : List ℕ) → n ≤ i
+    → Writing G o c (merged b t (listed_from p i (n - i))) → Wrote o c (interval b t ∷ []) q r → Holding q r G
 unfolding merged
-join_end b t p h w e = changed (all_done (on (rw (listed_end p h) at w) e))
+join_end b t p h w e = all_done (on (rw (listed_end p h) at w) e)
 
 module _ {o q : List ℕ} {n m : ℕ} (c x : Read) where
   pub absorbed_below : x.top < c.bottom → Wrote o n (interval x.bottom x.top ∷ []) q m → Short c → Absorbed o n c x q m c

@@ -1,12 +1,16 @@
--- Answers of `column::Column::reaching`.
-use Rattle.column.specs.Laws.Reaching.{reached_here, reached_later, reached_none}
+-- `column::Column::reaching`: it looks for the first from number `from` on. Assumes nothing.
+use Rattle.std.proofs.Common.{◌∙◌, ◌+◌, ◌*◌, ◌≤◌, ◌<◌, rules, tests}
+use Rattle.std.proofs.lemmas.Iterator.{first_from_Range}
+use Rattle.model.specs.Limits.{interval_size}
+use Rattle.model.specs.Tasks.{word}
+use Rattle.column.specs.Laws.Reaching.{reaching_found}
 use Rattle.column.proofs.Column.reaching.Goals as goal
 
-pub returns-then-get16-top : goal.returns-then-get16-top
-returns-then-get16-top c = reached_here _ _ _ _ _ c.loop-i.invariant c.loop-i-test.true _ c.get16.ensures.is c.if-get16-top.true
-
-pub loop-i-preserved : goal.loop-i-preserved
-loop-i-preserved c = reached_later _ _ _ _ _ c.loop-i.invariant c.loop-i-test.true _ c.get16.ensures.is c.if-get16-top.false
-
 pub returns : goal.returns
-returns c = reached_none _ _ _ _ _ c.loop-i.invariant c.loop-i-test.false
+returns c =
+    let p = c.args.self.part.now in
+    let t = c.args.top in
+    c.unwrap_or.ensures
+    ∙ reaching_found p c.args.self.count c.args.from t _
+    (first_from_Range _ _ _ _ (λ i. t ≤ word p (interval_size * i + 2)) (λ i. word p (interval_size * i + 2) < t) c.find.ensures.ran
+    (λ x q k. search (rules, tests)) (λ x q k. search (rules, tests)))

@@ -1,6 +1,6 @@
--- `column::Draft::absorb`, in each of its three cases. Assumes nothing.
+-- `column::rewrite::Draft::absorb`, in each of its three cases. Assumes nothing.
 use Rattle.column.specs.Laws.Writing.{absorbed_below, absorbed_above, absorbed_met}
-use Rattle.column.proofs.Draft.absorb.Goals as goal
+use Rattle.column.proofs.rewrite.Draft.absorb.Goals as goal
 
 pub returns-then-next-carried : goal.returns-then-next-carried
 returns-then-next-carried c = absorbed_below _ _ c.if-next-carried.true c.push.ensures c.requires.carried_short
