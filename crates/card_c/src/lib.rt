@@ -70,7 +70,7 @@ pub extern "C" fn card_fragmentation(record: &[u8], free: &mut i32, degree: &mut
 {
     let broken = card::fragmentation(record);
     let numbers = broken.unwrap_or_default();
-    *free = numbers.free as i32;
-    *degree = numbers.degree as i32;
-    answer(broken.map(|numbers| numbers.sets as i32))
+    *free = numbers.free.cast_signed();
+    *degree = numbers.degree.cast_signed();
+    answer(broken.map(|numbers| numbers.sets.cast_signed()))
 }
