@@ -1,8 +1,9 @@
 // A line from the fourth on.
-ghost use Rattle.std.specs.Prelude.{◌≡◌, []};
+ghost use Rattle.std.specs.Prelude.{◌≡◌, [], pos};
 ghost use Rattle.model.specs.Calls.{choose, place, release};
 ghost use Rattle.model.specs.OnRecord.{on_record};
 ghost use Rattle.model.specs.Program.{on_call, on_line};
+ghost use Rattle.card.specs.Answers.{answer_by, position_of};
 ghost use Rattle.card.specs.Leaves.{Changes};
 ghost use Rattle.line.specs.Calls.{call_said};
 ghost use Rattle.desk.specs.Desk.{desk_of, Leaves};
@@ -10,40 +11,39 @@ ghost use Rattle.desk.specs.Desk.{desk_of, Leaves};
 use crate::fault::Fault;
 use crate::output::{say, say_fault};
 use crate::{Desk, Output};
+use card::{Chosen, Refusal, answer};
 use line::call::Call;
 
 impl Desk {
     // C: the best position of the draft.
-    fn choose(&self) -> i32
-        ensures { Changes (on_record self.now.card (choose self.now.draft.bytes.items)) result self.now.card }
+    fn choose(&self) -> Result<Chosen, Refusal>
+        ensures { Changes (on_record self.now.card (choose self.now.draft.bytes.items)) (answer_by position_of result) self.now.card }
     {
         let draft = &self.draft;
-        card::answer(card::choose(&self.card, draft.bytes.as_slice()))
+        card::choose(&self.card, draft.bytes.as_slice())
     }
 
     // P: the draft is placed.
-    fn place(&mut self, task: u16, column: u8, bottom: i16) -> i32
-        ensures answers { Changes (on_record self.old.card (place self.old.draft.bytes.items task column bottom)) result self.new.card }
+    fn place(&mut self, task: u16, column: u8, bottom: i16) -> Result<(), Refusal>
+        ensures answers { Changes (on_record self.old.card (place self.old.draft.bytes.items task column bottom)) (answer_by (λ _. pos 0) result) self.new.card }
         ensures same_draft { self.new.draft.bytes.items ≡ self.old.draft.bytes.items }
     {
         let draft = &self.draft;
-        let placed = card::place(
+        card::place(
             &mut self.card,
             draft.bytes.as_slice(),
             u32::from(task),
             u32::from(column),
             i32::from(bottom),
-        );
-        card::answer(placed.map(|()| 0))
+        )
     }
 
     // R: a task is released.
-    fn release(&mut self, task: u16) -> i32
-        ensures answers { Changes (on_record self.old.card (release task)) result self.new.card }
+    fn release(&mut self, task: u16) -> Result<(), Refusal>
+        ensures answers { Changes (on_record self.old.card (release task)) (answer_by (λ _. pos 0) result) self.new.card }
         ensures same_draft { self.new.draft.bytes.items ≡ self.old.draft.bytes.items }
     {
-        let released = card::release(&mut self.card, u32::from(task));
-        card::answer(released.map(|()| 0))
+        card::release(&mut self.card, u32::from(task))
     }
 
     // What a call does to the desk, and prints.
@@ -59,13 +59,17 @@ impl Desk {
             }
             Call::Empty => self.draft.bytes.clear(),
             Call::List => self.list(number, out),
-            Call::Choose => say(out, number, self.choose()),
+            Call::Choose => say(out, number, answer(self.choose())),
             Call::Place {
                 task,
                 column,
                 bottom,
-            } => say(out, number, self.place(task, column, bottom)),
-            Call::Release { task } => say(out, number, self.release(task)),
+            } => say(
+                out,
+                number,
+                answer(self.place(task, column, bottom).map(|()| 0)),
+            ),
+            Call::Release { task } => say(out, number, answer(self.release(task).map(|()| 0))),
         }
     }
 

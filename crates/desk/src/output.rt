@@ -10,7 +10,7 @@ use crate::Output;
 use crate::fault::Fault;
 use line::print::OutputLine;
 
-// A line that has an answer and no range.
+// A line that has an answer and no range. The answer is a number here, since that is what a line of output has (MODEL 18.3).
 pub fn say(out: &mut Output, number: u32, answer: i32)
     requires { array_string_len out.old + line_room ≤ output_room }
     ensures { out.new.bytes ≡ out.old.bytes ++ says number answer }

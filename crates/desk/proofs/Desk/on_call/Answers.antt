@@ -1,8 +1,9 @@
 -- `Desk::on_call`: one law for each call. Assumes nothing.
-use Rattle.std.proofs.Common.{w16, w32, refl, to_z-of_z, rules}
+use Rattle.std.proofs.Common.{◌≡◌, pos, w16, w32, refl, to_z-of_z, rules}
 use Rattle.std.proofs.Math.Nat.{lt_of_not-le}
 use Rattle.model.specs.Calls.{choose, place, release}
 use Rattle.model.specs.Program.{on_call}
+use Rattle.card.specs.Answers.{answer_by, position_of}
 use Rattle.desk.specs.Laws.Lines.{leaves_added, leaves_full, leaves_emptied, leaves_listed, leaves_answered}
 use Rattle.desk.proofs.Desk.on_call.Goals as goal
 
@@ -27,7 +28,8 @@ returns-in-List c = let x = c.list.ensures in rw (c.in-List.is, x.same_card, x.s
 pub returns-in-Choose : goal.returns-in-Choose
 unfolding on_call
 returns-in-Choose c =
-    rw (c.in-Choose.is, c.say-in-Choose.ensures, c.requires, to_z-of_z {w = w32} (record { sfits = c.choose.type_inv }))
+    let number : c.answer.result ≡ answer_by position_of c.choose.result = search rules in
+    rw (c.in-Choose.is, c.say-in-Choose.ensures, c.requires, to_z-of_z {w = w32} (record { sfits = c.answer.type_inv }), number)
     (leaves_answered _ c.args.self.now.is_card _ _ (choose _) _ c.choose.ensures)
 
 pub returns-in-Place : goal.returns-in-Place
@@ -35,12 +37,14 @@ unfolding on_call
 returns-in-Place c =
     let x = c.place.ensures in
     let bottom = to_z-of_z {w = w16} {z = c.in-Place.bottom} (record { sfits = search rules }) in
-    rw (c.in-Place.is, x.same_draft, c.say-in-Place.ensures, c.requires, to_z-of_z {w = w32} (record { sfits = c.place.type_inv }))
+    let number : c.answer-in-Place.result ≡ answer_by (λ _. pos 0) c.place.result = search rules in
+    rw (c.in-Place.is, x.same_draft, c.say-in-Place.ensures, c.requires, to_z-of_z {w = w32} (record { sfits = c.answer-in-Place.type_inv }), number)
     (leaves_answered _ c.args.self.now.is_card _ _ (place _ _ _ _) _ (rw bottom at x.answers))
 
 pub returns-in-Release : goal.returns-in-Release
 unfolding on_call
 returns-in-Release c =
     let x = c.release.ensures in
-    rw (c.in-Release.is, x.same_draft, c.say-in-Release.ensures, c.requires, to_z-of_z {w = w32} (record { sfits = c.release.type_inv }))
+    let number : c.answer-in-Release.result ≡ answer_by (λ _. pos 0) c.release.result = search rules in
+    rw (c.in-Release.is, x.same_draft, c.say-in-Release.ensures, c.requires, to_z-of_z {w = w32} (record { sfits = c.answer-in-Release.type_inv }), number)
     (leaves_answered _ c.args.self.now.is_card _ _ (release _) _ x.answers)

@@ -3,4 +3,4 @@ use Rattle.desk.specs.Laws.Card.{card_after}
 use Rattle.desk.proofs.Desk.release.Goals as goal
 
 pub invariant_of-self : goal.invariant_of-self
-invariant_of-self c = record { is_card = card_after _ c.args.self.now.is_card _ c.release-released.ensures.record_is }
+invariant_of-self c = record { is_card = card_after _ c.args.self.now.is_card _ c.release.ensures.record_is }
