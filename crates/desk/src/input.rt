@@ -82,7 +82,7 @@ pub fn begin<'a>(input: &'a [u8], card: &mut [u8]) -> Result<&'a [u8], Fault>
     ensures { MatchResult result (λ r. Begun card.new (first (lines input.now)) r.now × (length r.now ≤ length input.now) × (length input.now ≤ max_sheet)) (λ f. program input.now ≡ names_line ++ shown_fault f) }
 {
     if MAX_SHEET < input.len() {
-        return Err(Fault::Malformed(0));
+        return Err(Fault::TooLong);
     }
     first(input, card)
 }
