@@ -1,6 +1,6 @@
 // The input: where its lines end, and its first three lines.
 ghost use Rattle.std.specs.Prelude.{◌≡◌, ◌≤◌, ◌++◌, length, MatchOption, MatchResult};
-ghost use Rattle.model.specs.Limits.{record_size, max_sheet};
+ghost use Rattle.model.specs.Limits.{max_sheet};
 ghost use Rattle.model.specs.Columns.{Device};
 ghost use Rattle.model.specs.Sheet.{device_line};
 ghost use Rattle.model.specs.Program.{first, second, third, lines, program};
@@ -10,6 +10,7 @@ ghost use Rattle.desk.specs.Input.{Parts, Opened, Refuses, GoesOn, Begun, Leads}
 
 use crate::MAX_SHEET;
 use crate::fault::Fault;
+use model::RECORD_SIZE;
 
 // MODEL 17.1: the first line of some bytes, without its newline, and the bytes after it; nothing where there are no bytes.
 pub fn next_line(input: &[u8]) -> Option<(&[u8], &[u8])>
@@ -34,8 +35,7 @@ fn line(input: &[u8], number: u32) -> Result<(&[u8], &[u8]), Fault>
 }
 
 // The card of the second line: new judges its device.
-fn new_card(line: &[u8], card: &mut [u8]) -> Result<(), Fault>
-    requires { length card.old ≡ record_size }
+fn new_card(line: &[u8], card: &mut [u8; RECORD_SIZE]) -> Result<(), Fault>
     ensures { MatchResult result (λ _. Opened (device_line line.now) card.new) (Refuses (device_line line.now)) }
 {
     let device = line::device::device_line(line).ok_or(Fault::Malformed(2))?;
@@ -55,8 +55,7 @@ fn third(input: &[u8]) -> Result<&[u8], Fault>
 }
 
 // The second line, and the third. The card is that of the second line.
-fn second<'a>(input: &'a [u8], card: &mut [u8]) -> Result<&'a [u8], Fault>
-    requires { length card.old ≡ record_size }
+fn second<'a>(input: &'a [u8], card: &mut [u8; RECORD_SIZE]) -> Result<&'a [u8], Fault>
     ensures { Leads input.now card.new (second (lines input.now)) result }
 {
     let (device, rest) = line(input, 2)?;
@@ -65,8 +64,7 @@ fn second<'a>(input: &'a [u8], card: &mut [u8]) -> Result<&'a [u8], Fault>
 }
 
 // The first line, and the second and the third.
-fn first<'a>(input: &'a [u8], card: &mut [u8]) -> Result<&'a [u8], Fault>
-    requires { length card.old ≡ record_size }
+fn first<'a>(input: &'a [u8], card: &mut [u8; RECORD_SIZE]) -> Result<&'a [u8], Fault>
     ensures { Leads input.now card.new (first (lines input.now)) result }
 {
     let (names, rest) = line(input, 1)?;
@@ -77,8 +75,7 @@ fn first<'a>(input: &'a [u8], card: &mut [u8]) -> Result<&'a [u8], Fault>
 }
 
 // MODEL 18.2: the first three lines of an input that is not too long.
-pub fn begin<'a>(input: &'a [u8], card: &mut [u8]) -> Result<&'a [u8], Fault>
-    requires { length card.old ≡ record_size }
+pub fn begin<'a>(input: &'a [u8], card: &mut [u8; RECORD_SIZE]) -> Result<&'a [u8], Fault>
     ensures { MatchResult result (λ r. Begun card.new (first (lines input.now)) r.now × (length r.now ≤ length input.now) × (length input.now ≤ max_sheet)) (λ f. program input.now ≡ names_line ++ shown_fault f) }
 {
     if MAX_SHEET < input.len() {

@@ -1,5 +1,5 @@
 -- `new_card`: a malformed line, or its device, handed to new. Assumes nothing.
-use Rattle.std.proofs.Common.{◌≡◌}
+use Rattle.std.proofs.Common.{◌≡◌, rules}
 use Rattle.std.proofs.lemmas.Result.{err_from_is_err_and}
 use Rattle.desk.specs.declared.fault.Fault.TheVariants.{Malformed}
 use Rattle.desk.specs.Laws.Input.{refuses_none, opened}
@@ -16,7 +16,7 @@ pub returns-in_err-new : goal.returns-in_err-new
 returns-in_err-new c =
     let x = c.from_residual-in_err-new in
     let p = err_from_is_err_and x.result x.ensures.1 in
-    rw (p.1, p.2) (rw c.in_err-new.was at (opened _ c.requires _ c.in_ok-device.device (rw c.in_ok-device.ensures.ok_part at c.device_line.ensures) c.new.result (rw c.as_slice.ensures.value at c.new.ensures)))
+    rw (p.1, p.2) (rw c.in_err-new.was at (opened c.args.card.now (search rules) _ c.in_ok-device.device (rw c.in_ok-device.ensures.ok_part at c.device_line.ensures) c.new.result (rw c.as_slice.ensures.value at c.new.ensures)))
 
 pub returns : goal.returns
-returns c = rw c.in_ok-new.was at (opened _ c.requires _ c.in_ok-device.device (rw c.in_ok-device.ensures.ok_part at c.device_line.ensures) c.new.result (rw c.as_slice.ensures.value at c.new.ensures))
+returns c = rw c.in_ok-new.was at (opened c.args.card.now (search rules) _ c.in_ok-device.device (rw c.in_ok-device.ensures.ok_part at c.device_line.ensures) c.new.result (rw c.as_slice.ensures.value at c.new.ensures))
