@@ -1,16 +1,17 @@
 // A line from the fourth on.
-ghost use Rattle.std.specs.Prelude.{◌≡◌, [], pos};
+ghost use Rattle.std.specs.Prelude.{◌≡◌, ◌≤◌, [], pos};
 ghost use Rattle.model.specs.Calls.{choose, place, release};
 ghost use Rattle.model.specs.OnRecord.{on_record};
 ghost use Rattle.model.specs.Program.{on_call, on_line};
 ghost use Rattle.card.specs.Answers.{answer_by, position_of};
 ghost use Rattle.card.specs.Leaves.{Changes};
 ghost use Rattle.line.specs.Calls.{call_said};
-ghost use Rattle.desk.specs.Desk.{desk_of, Leaves};
+ghost use Rattle.desk.specs.Desk.{output_room, desk_of, Leaves};
 
+use crate::Desk;
 use crate::fault::Fault;
 use crate::output::{say, say_fault};
-use crate::{Desk, Output};
+use arrayvec::ArrayString;
 use card::{Chosen, Refusal, answer};
 use line::call::Call;
 
@@ -47,8 +48,9 @@ impl Desk {
     }
 
     // What a call does to the desk, and prints.
-    fn on_call(&mut self, number: u32, call: Call, out: &mut Output)
-        requires { out.old.bytes ≡ [] }
+    fn on_call<const N: usize>(&mut self, number: u32, call: Call, out: &mut ArrayString<N>)
+        requires room { output_room ≤ N }
+        requires empty { out.old.bytes ≡ [] }
         ensures { Leaves (on_call number (desk_of self.old.card self.old.draft.bytes.items) (call_said call)) self.new.card self.new.draft.bytes.items out.new.bytes }
     {
         match call {
@@ -74,7 +76,13 @@ impl Desk {
     }
 
     // One line, without its newline.
-    pub(crate) fn on_line(&mut self, number: u32, line: &[u8], out: &mut Output)
+    pub(crate) fn on_line<const N: usize>(
+        &mut self,
+        number: u32,
+        line: &[u8],
+        out: &mut ArrayString<N>,
+    )
+        requires { output_room ≤ N }
         ensures { Leaves (on_line number (desk_of self.old.card self.old.draft.bytes.items) line.now) self.new.card self.new.draft.bytes.items out.new.bytes }
     {
         out.clear();

@@ -8,16 +8,17 @@ ghost use Rattle.arrayvec.specs.ArrayString.{array_string_len};
 ghost use Rattle.line.specs.Print.{line_room};
 ghost use Rattle.desk.specs.Desk.{output_room, desk_of, range_at, range_line};
 
+use crate::Desk;
 use crate::output::say;
-use crate::{Desk, Output};
+use arrayvec::ArrayString;
 use line::print::OutputLine;
 use model::{LIST_ROOM, RANGE_FIRST_AT, RANGE_LAST_AT, RANGE_SIZE, RANGE_STEP_AT};
 use words::get16;
 
 // The lines of output of the first `count` ranges of a listing.
-fn print_ranges(listing: &[u8], count: u16, number: u32, out: &mut Output)
+fn print_ranges<const N: usize>(listing: &[u8], count: u16, number: u32, out: &mut ArrayString<N>)
     requires listed { range_size * count ≤ length listing.now }
-    requires room { array_string_len out.old + line_room * count ≤ output_room }
+    requires room { array_string_len out.old + line_room * count ≤ N }
     ensures { out.new.bytes ≡ out.old.bytes ++ shows number (pos count) (ranges_in count listing.now) }
 {
     for i in 0..usize::from(count) {
@@ -36,8 +37,9 @@ fn print_ranges(listing: &[u8], count: u16, number: u32, out: &mut Output)
 
 impl Desk {
     // The draft's ranges, or the refusal.
-    pub(crate) fn list(&mut self, number: u32, out: &mut Output)
-        requires { out.old.bytes ≡ [] }
+    pub(crate) fn list<const N: usize>(&mut self, number: u32, out: &mut ArrayString<N>)
+        requires room { output_room ≤ N }
+        requires empty { out.old.bytes ≡ [] }
         ensures same_card { self.new.card ≡ self.old.card }
         ensures same_draft { self.new.draft.bytes.items ≡ self.old.draft.bytes.items }
         ensures shows { out.new.bytes ≡ (on_call number (desk_of self.old.card self.old.draft.bytes.items) list_draft).printed }

@@ -3,7 +3,7 @@ use Rattle.desk.specs.Laws.Program.{next_desk, left_at, number_at}
 use Rattle.desk.proofs.Desk.turn.Goals as goal
 
 pub returns : goal.returns
-returns c =
+returns g c =
     record {
       left_is = left_at _ _ c.at.result c.at.ensures;
       number_is = number_at _ _ c.at.result c.at.ensures;

@@ -4,14 +4,14 @@ use Rattle.desk.specs.Laws.Program.{starts_none, starts_some}
 use Rattle.desk.proofs.program.start.Goals as goal
 
 pub returns-in_err-stand-in-Ok : goal.returns-in_err-stand-in-Ok
-returns-in_err-stand-in-Ok c =
+returns-in_err-stand-in-Ok g c =
     let x = c.in-Ok.ensures in
     rw c.from_residual.ensures (starts_none _ _ _ _ x.0 x.2 (rw (c.push_str.ensures.bytes, c.clear.ensures) c.names.ensures) c.in_err-stand-in-Ok.ensures)
 
 pub invariant_of-desk : goal.invariant_of-desk
-invariant_of-desk c = record { is_card = card_begun c.in-Ok.ensures.0 }
+invariant_of-desk g c = record { is_card = card_begun c.in-Ok.ensures.0 }
 
 pub returns-in_ok-stand-in-Ok : goal.returns-in_ok-stand-in-Ok
-returns-in_ok-stand-in-Ok c =
+returns-in_ok-stand-in-Ok g c =
     let x = c.in-Ok.ensures in
     rw c.new.ensures (starts_some _ _ _ _ x.0 x.2 (rw (c.push_str.ensures.bytes, c.clear.ensures) c.names.ensures) c.in_ok-stand-in-Ok.stand c.in_ok-stand-in-Ok.ensures)
