@@ -208,10 +208,11 @@ module _ (d : Device) (b : Book) (t : List ℕ) (p : ℕ) (w : within d b ≡ tr
       lists_runs (step t) (fits d b t p) (omega arith) (fits_steps d b t p n) (half_rows d) (map lowered L) (rw e at r)
 
   -- where a block has no column of its kind, there is no range
-  pub none_stand : (k : ℕ) → k < blocks t → ((p + (block t k).column < columns d) → kind d (p + (block t k).column) ≡ (block t k).kind → ⊥) → [] ≡ runs (step t) (fits d b t p) (half_rows d)
-  none_stand k l h =
+  pub none_stand : (((k : ℕ) → k < blocks t → (p + (block t k).column < columns d) × (kind d (p + (block t k).column) ≡ (block t k).kind)) → ⊥)
+      → [] ≡ runs (step t) (fits d b t p) (half_rows d)
+  none_stand h =
       let two = step_bounds t n in
       lists_runs (step t) (fits d b t p) (omega arith) (fits_steps d b t p n) (half_rows d) [] (record {
         canon = tt;
-        named = λ y. (λ m. absurd m, λ (g, e). let u = fits_to d b t p y e k l in h u.column u.kind);
+        named = λ y. (λ m. absurd m, λ (g, e). absurd (h (λ k l. let u = fits_to d b t p y e k l in (u.column, u.kind))));
       })
