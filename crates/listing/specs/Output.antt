@@ -16,17 +16,13 @@ abbrev pub IsSmall : Run → Type 0
 IsSmall q = (q.first < words) × (q.last < words)
 
 -- MODEL 10.6: a range fits its bytes, and has room as number n of an output of that size
-pub record Writable (size n column step : ℕ) (q : Run) : Type 0 where
+pub record Writable (size n : ℕ) (q : Run) : Type 0 where
   pub room : range_size * n + range_size ≤ size
-  pub column_fits : column < 256
-  pub step_fits : step < 256
   pub fits : IsSmall q
 
 -- the runs L, as numbers n and up
-pub record AllWritable (size n column step : ℕ) (L : List Run) : Type 0 where
+pub record AllWritable (size n : ℕ) (L : List Run) : Type 0 where
   pub room : range_size * (n + length L) ≤ size
-  pub column_fits : column < 256
-  pub step_fits : step < 256
   pub fits : All IsSmall L
 
 -- MODEL 10.6: the bytes of the ranges of a column

@@ -14,28 +14,28 @@ use record::checked::SoundRecord;
 use task::Task;
 use words::put16;
 
-// Where ranges are listed: their column, and the step of their bottoms.
+// MODEL 10.6: where ranges are listed: the bytes of their column, and of the step of their bottoms.
 #[derive(Clone, Copy)]
 struct Place {
-    column: usize,
-    step: u32,
+    column: u8,
+    step: u8,
 }
 
 // MODEL 10.6: writes a range as number n of the output.
 fn write_range(output: &mut [u8], n: usize, at: Place, run: Run)
-    requires { Writable (length output.old) n at.column at.step run }
+    requires { Writable (length output.old) n run }
     ensures { output.new ≡ splice output.old (range_size * n) range_size (range_bytes (range_of at.column at.step run)) }
 {
     let start = model::RANGE_SIZE * n;
-    output[start] = at.column as u8;
-    output[start + model::RANGE_STEP_AT] = at.step as u8;
+    output[start] = at.column;
+    output[start + model::RANGE_STEP_AT] = at.step;
     put16(output, start + model::RANGE_FIRST_AT, run.first);
     put16(output, start + model::RANGE_LAST_AT, run.last);
 }
 
 // Writes the ranges of a column as numbers n and up of the output.
 fn write_ranges(output: &mut [u8], n: usize, at: Place, runs: &[Run])
-    requires { AllWritable (length output.old) n at.column at.step runs.now }
+    requires { AllWritable (length output.old) n runs.now }
     ensures { output.new ≡ splice output.old (range_size * n) (range_size * length runs.now) (column_bytes at.column at.step runs.now) }
 {
     for (i, run) in runs.iter().enumerate() {
@@ -44,20 +44,23 @@ fn write_ranges(output: &mut [u8], n: usize, at: Place, runs: &[Run])
 }
 
 // MODEL 12.6: writes all ranges of the task, by rising column. The answer (MODEL 12.1 and 13.7) is how many, or none where no position fits.
-pub fn list(record: SoundRecord, task: Task, output: &mut [u8]) -> Option<u32>
+pub fn list(record: SoundRecord, task: Task, output: &mut [u8]) -> Option<u16>
     requires { list_room ≤ length output.old }
     ensures { Answers result (device_of «record».entry.bytes.now) (book_of «record».entry.bytes.now) task.entry.bytes.now output.old output.new }
 {
     let mut room = Room::new();
-    let step = task.step();
+    // A step is at most 10, and a column below 64: each fits its byte.
+    let step = task.step() as u8;
     let mut n: usize = 0;
     for column in 0..record.columns() {
         let ranges = column_ranges(record, task, column, &mut room);
+        let column = column as u8;
         write_ranges(output, n, Place { column, step }, ranges);
         n += ranges.len();
     }
     if n == 0 {
         return None;
     }
-    Some(n as u32)
+    // At most 64 ranges in each of at most 64 columns.
+    Some(n as u16)
 }

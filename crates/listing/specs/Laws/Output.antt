@@ -9,7 +9,7 @@ use Rattle.std.proofs.Math.ListN.{length, length-append}
 use Rattle.std.proofs.lemmas.List.{length-map, length-take, take_more, take_all}
 use Rattle.runs.specs.Runs.{Run, run}
 use Rattle.runs.specs.Laws.Runs.{runs_lists}
-use Rattle.model.specs.Limits.{words, max_columns, range_size, list_room}
+use Rattle.model.specs.Limits.{words, range_size, list_room}
 use Rattle.model.specs.Bounded.{join_in, join_below}
 use Rattle.model.specs.Columns.{columns, half_rows}
 use Rattle.model.specs.Tasks.{step}
@@ -23,7 +23,7 @@ use Rattle.model.proofs.Laws.Parts.{splice_none, splice_more, length_splice, set
 use Rattle.model.proofs.Laws.Listing.{join_append}
 use Rattle.model.proofs.Laws.Limits.{limits_to}
 use Rattle.model.proofs.Laws.Step.{list_done}
-use Rattle.model.proofs.Laws.Steps.{step_bounds, fits_steps}
+use Rattle.model.proofs.Laws.Steps.{fits_steps}
 use Rattle.model.proofs.Laws.NoPosition.{ranges_none_iff}
 use Rattle.model.proofs.Laws.Sound.{sound_within}
 use Rattle.listing.specs.Lists.{max_runs}
@@ -66,7 +66,7 @@ length_column p s L = length_ranges (map (range_of p s) L) ∙ rw (length-map L 
 abbrev pub Writing : List ℕ → ℕ → ℕ → ℕ → List Run → ℕ → List ℕ → Type 0
 Writing o₀ n p s L i o = o ≡ splice o₀ (range_size * n) (range_size * i) (column_bytes p s (take i L))
 
-module _ (o₀ : List ℕ) (n p s : ℕ) (L : List Run) (w : AllWritable (length o₀) n p s L) where
+module _ (o₀ : List ℕ) (n p s : ℕ) (L : List Run) (w : AllWritable (length o₀) n L) where
   pub writing_start : Writing o₀ n p s L 0 o₀
   unfolding join_in
   writing_start = sym (splice_none o₀ (range_size * n))
@@ -80,11 +80,9 @@ module _ (o₀ : List ℕ) (n p s : ℕ) (L : List Run) (w : AllWritable (length
 
   -- q is run i
   module _ (i : ℕ) (q : Run) (l : i < length L) (is : get_or L i q ≡ q) where
-    pub writable : (o : List ℕ) → Writing o₀ n p s L i o → Writable (length o) (n + i) p s q
+    pub writable : (o : List ℕ) → Writing o₀ n p s L i o → Writable (length o) (n + i) q
     writable o e = record {
       room = omega (arith, w.room, writing_length i o (omega arith) e);
-      column_fits = w.column_fits;
-      step_fits = w.step_fits;
       fits = rw is at (w.fits i q l);
     }
 
@@ -142,20 +140,19 @@ module _ (r t : List ℕ) (g : Given r t) (o₀ : List ℕ) (big : list_room ≤
         let rows = (limits_to (device_of r) (book_of r) (sound_within r g.sound)).rows in
         ends_all (λ z. z < words) (step t) 0 L (rw x y.canon) (λ z m. omega (arith, (y.named z).0 (rw x at m)))
 
-    module _ (o : List ℕ) (w : Written r t o₀ p n o) (here : p < columns (device_of r)) (s : ℕ) (e : s ≡ step t) where
-      pub all_writable : AllWritable (length o) n p s L
+    module _ (o : List ℕ) (w : Written r t o₀ p n o) (here : p < columns (device_of r)) where
+      pub all_writable : AllWritable (length o) n L
       all_writable =
           let c = few_columns r g.sound in
           record {
             room = omega (arith, written_length p n o w, w.few);
-            column_fits = omega arith;
-            step_fits = omega (arith, step_bounds t (some_blocks r t g));
             fits = small;
           }
 
-      pub written_next : (o' : List ℕ) → o' ≡ splice o (range_size * n) (range_size * length L) (column_bytes p s L) → Written r t o₀ (p + 1) (n + length L) o'
+      pub written_next : (s : ℕ) → s ≡ step t → (o' : List ℕ) → o' ≡ splice o (range_size * n) (range_size * length L) (column_bytes p s L)
+          → Written r t o₀ (p + 1) (n + length L) o'
       unfolding join_below
-      written_next o' h =
+      written_next s e o' h =
           let K = ranges_below r t p in
           let M = map (range_of p (step t)) (ranges_in (device_of r) (book_of r) t p) in
           let count : n ≡ length K = w.count in
@@ -208,6 +205,3 @@ module _ (r t : List ℕ) (g : Given r t) (o₀ : List ℕ) (big : list_room ≤
       let some = is_false (no_position (device_of r) (book_of r) t) (λ z. h (w.count ∙ ap length (e ∙ (ranges_none_iff (device_of r) (book_of r) t (some_blocks r t g)).1 z))) in
       let q = list_done (device_of r) (book_of r) t g.sized g.formed o₀ big some in
       record { answer_is = rw q (ap pos (w.count ∙ ap length e)); output_is = rw q (w.bytes ∙ rw e) }
-
-  pub few_ranges : (p n : ℕ) (o : List ℕ) → Written r t o₀ p n o → n ≤ max_runs * max_columns
-  few_ranges p n o w = omega (arith, w.few, w.within, few_columns r g.sound)

@@ -1,30 +1,30 @@
 -- Answers of `listing::output::list`.
 use Rattle.std.proofs.Common.{arith}
-use Rattle.listing.specs.Laws.Column.{given_of}
+use Rattle.model.proofs.Laws.Steps.{step_bounds}
+use Rattle.listing.specs.Laws.Column.{given_of, some_blocks}
 use Rattle.listing.specs.Laws.Output.{written_none, all_writable, written_next, answer_none, answer_some}
 use Rattle.listing.proofs.output.list.Goals as goal
 
+pub overflow_cast-step : goal.overflow_cast-step
+overflow_cast-step c = omega (arith, step_bounds _ (some_blocks _ _ (given_of c.args.record c.args.task)))
+
 pub loop-column-init : goal.loop-column-init
-loop-column-init c = written_none c.args.record.bytes.now c.args.task.bytes.now (given_of c.args.record c.args.task) c.args.output.now c.requires
+loop-column-init c = written_none _ _ (given_of c.args.record c.args.task) _ c.requires
 
 pub write_ranges-requires : goal.write_ranges-requires
 write_ranges-requires c =
-    all_writable c.args.record.bytes.now c.args.task.bytes.now (given_of c.args.record c.args.task) c.args.output.now c.requires
-    c.loop-column.column c.loop-column.n c.column_ranges-ranges.result.now c.column_ranges-ranges.ensures.ranges c.column_ranges-ranges.ensures.few
-    c.loop-column.output c.loop-column.invariant (omega arith) c.step-step.result c.step-step.ensures
+    all_writable _ _ (given_of c.args.record c.args.task) _ c.requires _ _ _ c.column_ranges-ranges.ensures.ranges c.column_ranges-ranges.ensures.few
+    _ c.loop-column.invariant (omega arith)
 
 pub loop-column-preserved : goal.loop-column-preserved
 loop-column-preserved c =
-    written_next c.args.record.bytes.now c.args.task.bytes.now (given_of c.args.record c.args.task) c.args.output.now c.requires
-    c.loop-column.column c.loop-column.n c.column_ranges-ranges.result.now c.column_ranges-ranges.ensures.ranges c.column_ranges-ranges.ensures.few
-    c.loop-column.output c.loop-column.invariant (omega arith) c.step-step.result c.step-step.ensures c.write_ranges.new.output c.write_ranges.ensures
+    written_next _ _ (given_of c.args.record c.args.task) _ c.requires _ _ _ c.column_ranges-ranges.ensures.ranges c.column_ranges-ranges.ensures.few
+    _ c.loop-column.invariant (omega arith) _ c.step-step.ensures _ c.write_ranges.ensures
 
 pub returns-then-n-eq0 : goal.returns-then-n-eq0
 returns-then-n-eq0 c =
-    answer_none c.args.record.bytes.now c.args.task.bytes.now (given_of c.args.record c.args.task) c.args.output.now c.requires
-    c.loop-column.column c.loop-column.n c.loop-column.output (omega arith) c.loop-column.invariant c.if-n-eq0.true
+    answer_none _ _ (given_of c.args.record c.args.task) _ c.requires _ _ _ (omega arith) c.loop-column.invariant c.if-n-eq0.true
 
 pub returns : goal.returns
 returns c =
-    answer_some c.args.record.bytes.now c.args.task.bytes.now (given_of c.args.record c.args.task) c.args.output.now c.requires
-    c.loop-column.column c.loop-column.n c.loop-column.output (omega arith) c.loop-column.invariant c.if-n-eq0.false
+    answer_some _ _ (given_of c.args.record c.args.task) _ c.requires _ _ _ (omega arith) c.loop-column.invariant c.if-n-eq0.false
