@@ -10,6 +10,7 @@ use Rattle.model.specs.Tasks.{step}
 use Rattle.model.specs.Book.{Book, Placed, placed, fits, intervals}
 use Rattle.model.specs.Choice.{Judge, judge, Found, nothing, at, climb, chosen}
 use Rattle.model.specs.Calls.{choose, on_book}
+use Rattle.model.specs.Record.{device_of, book_of}
 use Rattle.model.specs.Homes.{bit, holder, home, adds, first_span, Room}
 use Rattle.column.specs.declared.Interval.{Interval as Rows}
 use Rattle.task.specs.declared.Extent.{Extent}
@@ -21,6 +22,10 @@ use Rattle.choice.specs.declared.tally.Rating.{Rating}
 use Rattle.choice.specs.declared.tally.Tally.{Tally}
 
 -- ---- one block
+
+-- MODEL 6.5: the free intervals of each column of the record r
+abbrev pub free_in : List ℕ → ℕ → List Interval
+free_in r = intervals (device_of r) (book_of r)
 
 -- the half rows of i in column c, as the code has them
 abbrev pub place_at : ℕ → Interval → Place
@@ -65,6 +70,18 @@ pieces_of joined b h = bit (not joined && ltb h.bottom b.bottom) + bit (ltb b.to
 -- MODEL 11.2: the height of its interval, unless the block before it has counted it
 abbrev pub span_of : Bool → Rows → ℕ
 span_of joined h = cond joined 0 (h.top - h.bottom)
+
+-- n, s and the room of a block b by itself, in the interval h, and joined there to the block before it or not
+pub record Alone (joined : Bool) (b h : Rows) (y : Rating) : Type 0 where
+  pub pieces : y.score.pieces ≡ pieces_of joined b h
+  pub stretch : y.score.stretch ≡ span_of joined h
+  pub room : y.room ≡ h.top - b.top
+
+-- n, s and the least room of the blocks of x and those of y
+pub record Together (x y z : Rating) : Type 0 where
+  pub pieces : z.score.pieces ≡ x.score.pieces + y.score.pieces
+  pub stretch : z.score.stretch ≡ x.score.stretch + y.score.stretch
+  pub room : z.room ≡ min x.room y.room
 
 -- what is asked of a block more: it stands free, and n and s are not yet at their bounds
 pub record Addable (L : ℕ → List Interval) (x : Rating) (b : Place) : Type 0 where

@@ -1,18 +1,15 @@
 // MODEL 11.1 to 11.3: the score of a position at which a task fits, block by block.
-ghost use Rattle.std.specs.Prelude.{◌≡◌, ◌+◌, ◌*◌, ◌≤◌, true};
+ghost use Rattle.std.specs.Prelude.{◌≡◌, ◌+◌, ◌*◌, ◌≤◌, true, false};
 ghost use Rattle.choice.specs.Bounds.{max_pieces, max_stretch};
 ghost use Rattle.model.specs.Limits.{max_rows};
-ghost use Rattle.model.specs.Book.{fits, intervals};
+ghost use Rattle.model.specs.Book.{fits};
 ghost use Rattle.model.specs.Record.{device_of, book_of};
-ghost use Rattle.choice.specs.Choosing.{moved, OnDevice, home_of, Stands, Housed, pieces_of, span_of, shared, Addable, Added, Scored};
+ghost use Rattle.choice.specs.Choosing.{free_in, moved, OnDevice, home_of, Stands, Housed, shared, Alone, Together, Addable, Added, Scored};
 
 use crate::score::Score;
 use column::Interval;
 use record::checked::SoundRecord;
 use task::{Extent, Position, Task};
-
-// More room than any block has.
-const MOST_ROOM: u32 = 65535;
 
 // Half rows of a column: a block where it stands, or the free interval that holds it, its home (MODEL 11.1).
 #[derive(Clone, Copy)]
@@ -49,8 +46,8 @@ impl Place {
 
     // The home of this block, as a search finds it.
     fn home(self, record: SoundRecord) -> Place
-        requires { Stands (intervals (device_of «record».bytes.now) (book_of «record».bytes.now)) self }
-        ensures home { result ≡ home_of (intervals (device_of «record».entry.bytes.now) (book_of «record».entry.bytes.now)) self }
+        requires { Stands (free_in «record».bytes.now) self }
+        ensures home { result ≡ home_of (free_in «record».entry.bytes.now) self }
         ensures housed { Housed self.rows result.rows }
     {
         let found = record.column(self.column).holder(self.rows);
@@ -69,40 +66,71 @@ impl Place {
 }
 
 impl Rating {
-    // One block more, which stands in `home`. If it is joined there to the block before it, that one has counted the home's height, and the piece
+    // One block, which stands in `home`. If it is joined there to the block before it, that one has counted the home's height, and the piece
     // between the two is the one above that block.
-    fn add_block(&mut self, joined: bool, block: Interval, home: Interval)
-        requires housed { Housed block home }
-        requires few { self.old.score.pieces + 2 ≤ max_pieces }
-        requires short { self.old.score.stretch + 2 * max_rows ≤ max_stretch }
-        ensures { Added self.old joined block home self.new }
+    fn of(joined: bool, block: Interval, home: Interval) -> Rating
+        requires { Housed block home }
+        ensures is { Alone joined block home result }
+        ensures few { result.score.pieces ≤ 2 }
+        ensures short { result.score.stretch ≤ 2 * max_rows }
     {
         let below = !joined && home.bottom < block.bottom;
         let above = block.top < home.top;
         let height = if joined { 0 } else { home.top - home.bottom };
-        self.score = Score {
-            pieces: self.score.pieces + u32::from(below) + u32::from(above),
-            stretch: self.score.stretch + height,
-        };
-        self.room = self.room.min(home.top - block.top);
+        Rating {
+            score: Score {
+                pieces: u32::from(below) + u32::from(above),
+                stretch: height,
+            },
+            room: home.top - block.top,
+        }
+    }
+
+    // The rating of these blocks and of others: the sums, and the least room.
+    fn and(self, other: Rating) -> Rating
+        requires few { self.score.pieces + other.score.pieces ≤ max_pieces }
+        requires short { self.score.stretch + other.score.stretch ≤ max_stretch }
+        ensures { Together self other result }
+    {
+        Rating {
+            score: Score {
+                pieces: self.score.pieces + other.score.pieces,
+                stretch: self.score.stretch + other.score.stretch,
+            },
+            room: self.room.min(other.room),
+        }
     }
 }
 
 impl Tally {
+    // The first block, which is joined to none.
+    fn new(record: SoundRecord, block: Place) -> Tally
+        requires { Stands (free_in «record».bytes.now) block }
+        ensures rating { Alone false block.rows (home_of (free_in «record».entry.bytes.now) block).rows result.rating }
+        ensures last { result.last ≡ home_of (free_in «record».entry.bytes.now) block }
+    {
+        let home = block.home(record);
+        Tally {
+            rating: Rating::of(false, block.rows, home.rows),
+            last: home,
+        }
+    }
+
     // One block more, in the home of the last one or in the one that a search finds.
     fn add_block(&mut self, record: SoundRecord, block: Place)
-        requires addable { Addable (intervals (device_of «record».bytes.now) (book_of «record».bytes.now)) self.old.rating block }
-        requires home_is { shared self.old.last block ≡ true → self.old.last ≡ home_of (intervals (device_of «record».bytes.now) (book_of «record».bytes.now)) block }
-        ensures rating { Added self.old.rating (shared self.old.last block) block.rows (home_of (intervals (device_of «record».entry.bytes.now) (book_of «record».entry.bytes.now)) block).rows self.new.rating }
-        ensures last { self.new.last ≡ home_of (intervals (device_of «record».entry.bytes.now) (book_of «record».entry.bytes.now)) block }
+        requires addable { Addable (free_in «record».bytes.now) self.old.rating block }
+        requires home_is { shared self.old.last block ≡ true → self.old.last ≡ home_of (free_in «record».bytes.now) block }
+        ensures rating { Added self.old.rating (shared self.old.last block) block.rows (home_of (free_in «record».entry.bytes.now) block).rows self.new.rating }
+        ensures last { self.new.last ≡ home_of (free_in «record».entry.bytes.now) block }
     {
         let last = self.last;
+        let so_far = self.rating;
         // Each branch adds the block by itself, so that one that is joined costs no second test.
         if last.is_shared(block) {
-            self.rating.add_block(true, block.rows, last.rows);
+            self.rating = so_far.and(Rating::of(true, block.rows, last.rows));
         } else {
             let home = block.home(record);
-            self.rating.add_block(false, block.rows, home.rows);
+            self.rating = so_far.and(Rating::of(false, block.rows, home.rows));
             self.last = home;
         }
     }
@@ -113,19 +141,7 @@ pub fn score_at(record: SoundRecord, task: Task, at: Position) -> Rating
     requires { fits (device_of «record».bytes.now) (book_of «record».bytes.now) task.bytes.now at.column at.bottom ≡ true }
     ensures { Scored (device_of «record».entry.bytes.now) (book_of «record».entry.bytes.now) task.entry.bytes.now at.column at.bottom result }
 {
-    let none = Rating {
-        score: Score {
-            pieces: 0,
-            stretch: 0,
-        },
-        room: MOST_ROOM,
-    };
-    let first = Place::new(task.extent(0), at);
-    let mut tally = Tally {
-        rating: none,
-        last: first.home(record),
-    };
-    tally.rating.add_block(false, first.rows, tally.last.rows);
+    let mut tally = Tally::new(record, Place::new(task.extent(0), at));
     for k in 1..task.count() {
         tally.add_block(record, Place::new(task.extent(k), at));
     }

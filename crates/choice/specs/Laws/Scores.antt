@@ -20,7 +20,7 @@ use Rattle.task.specs.declared.Extent.{Extent}
 use Rattle.task.specs.Blocks.{SameExtent}
 use Rattle.listing.specs.Columns.{Given}
 use Rattle.column.specs.declared.Interval.{Interval as Read}
-use Rattle.choice.specs.Choosing.{moved, place_at, Stands, home_of, shared, span_of, Addable, Added, Rated, Scoring, Scored}
+use Rattle.choice.specs.Choosing.{moved, place_at, Stands, home_of, shared, span_of, Alone, Addable, Added, Rated, Scoring, Scored}
 use Rattle.choice.specs.Laws.Homes.{block_of, home_at, joined_shared, shared_is, housed, on_device}
 use Rattle.choice.specs.declared.tally.Place.{Place}
 use Rattle.choice.specs.declared.tally.Rating.{Rating}
@@ -30,17 +30,21 @@ span_small : (joined : Bool) (i : Read) → i.top ≤ 2 * max_rows → span_of j
 span_small true i l = omega arith
 span_small false i l = omega arith
 
+-- no block, with a room
+none : ℕ → Rating
+none u = record { score = record { pieces = 0; stretch = 0; few = omega arith; short = omega arith }; room = u }
+
 module _ (B : Placed) (L : ℕ → List Interval) where
-  pub rated_none : (x : Rating) → x.score.pieces ≡ 0 → x.score.stretch ≡ 0 → x.room < words → Rated B L 0 x
-  unfolding sum_below
-  rated_none x n s u = record {
+  rated_none : (u : ℕ) → u < words → Rated B L 0 (none u)
+  unfolding none sum_below
+  rated_none u s = record {
     within = omega arith;
-    pieces = n;
-    stretch = s;
+    pieces = refl;
+    stretch = refl;
     room = λ j l. absurd (omega arith);
     pieces_few = omega arith;
     stretch_small = omega arith;
-    room_small = u;
+    room_small = s;
   }
 
   module _ (C : ℕ) (st : Free B C L) (k : ℕ) (x : Rating) (l : k < B.count) (r : Rated B L k x) where
@@ -100,10 +104,16 @@ module _ (r t : List ℕ) (a : Given r t) (p y k : ℕ) (f : fits (device_of r) 
   block_last h q = let back : k + 1 - 1 ≡ k = omega arith in rw back (q ∙ rw is_block)
 
   -- block 0 is the first in its home
-  pub first_rated : k ≡ 0 → (o z : Rating) → Added o false b.rows (home_of (intervals (device_of r) (book_of r)) b).rows z
-      → Rated (placed t p y) (intervals (device_of r) (book_of r)) k o → Rated (placed t p y) (intervals (device_of r) (book_of r)) (k + 1) z
-  unfolding joined
-  first_rated m o z h g = block_rated o g false (rw m) z h
+  pub first_rated : k ≡ 0 → (z : Rating) → Alone false b.rows (home_of (intervals (device_of r) (book_of r)) b).rows z
+      → Rated (placed t p y) (intervals (device_of r) (book_of r)) (k + 1) z
+  unfolding joined none
+  first_rated m z h =
+      let small : z.room < words = omega (arith, h.room, (housed r a.sound b block_stands _ refl).roof_small) in
+      block_rated (none z.room) (rw m (rated_none (placed t p y) (intervals (device_of r) (book_of r)) z.room small)) false (rw m) z (record {
+        pieces = omega (arith, h.pieces);
+        stretch = omega (arith, h.stretch);
+        room = omega (arith, h.room);
+      })
 
   -- a later block may stand in that of the block before it
   module _ (m : 1 ≤ k) (o : Tally) (g : Scoring (placed t p y) (intervals (device_of r) (book_of r)) k o) where

@@ -1,52 +1,50 @@
 -- Answers of `choice::tally::score_at`.
 use mathlib.Core.Path.{refl}
-use native.Mathlib.Omega.{arith}
 use Rattle.model.proofs.Laws.Tasks.{sized_to}
 use Rattle.choice.specs.Laws.Homes.{given, on_device}
-use Rattle.choice.specs.Laws.Scores.{rated_none, block_stands, block_addable, block_last, first_rated, next_shared, next_rated, scored}
+use Rattle.choice.specs.Laws.Scores.{block_stands, block_addable, block_last, first_rated, next_shared, next_rated, scored}
 use Rattle.choice.proofs.tally.score_at.Goals as goal
 
 pub extent-requires : goal.extent-requires
 extent-requires c = (sized_to _ c.args.task.sized).some_blocks
 
-pub new-first-requires : goal.new-first-requires
-new-first-requires c =
-    on_device _ _ (given c.args.record c.args.task) _ _ _ c.requires (sized_to _ c.args.task.sized).some_blocks _ c.extent.ensures
+pub new-requires : goal.new-requires
+new-requires c = on_device _ _ (given c.args.record c.args.task) _ _ _ c.requires (sized_to _ c.args.task.sized).some_blocks _ c.extent.ensures
 
-pub home-requires : goal.home-requires
-home-requires c =
-    block_stands _ _ (given c.args.record c.args.task) _ _ _ c.requires (sized_to _ c.args.task.sized).some_blocks _ c.extent.ensures _ c.new-first.ensures
+pub new-tally-requires : goal.new-tally-requires
+new-tally-requires c =
+    block_stands _ _ (given c.args.record c.args.task) _ _ _ c.requires (sized_to _ c.args.task.sized).some_blocks _ c.extent.ensures _ c.new.ensures
 
 pub loop-k-init : goal.loop-k-init
 loop-k-init c =
-    let home = c.home.ensures.home in
+    let first = c.new-tally.ensures in
+    let some = (sized_to _ c.args.task.sized).some_blocks in
     record {
-      rated = first_rated _ _ (given c.args.record c.args.task) _ _ _ c.requires (sized_to _ c.args.task.sized).some_blocks _ c.extent.ensures _ c.new-first.ensures
-          refl _ _ (rw home at c.add_block.ensures) (rated_none _ _ _ refl refl (omega arith));
-      last = block_last _ _ (given c.args.record c.args.task) _ _ _ c.requires (sized_to _ c.args.task.sized).some_blocks _ c.extent.ensures _ c.new-first.ensures _ home;
+      rated = first_rated _ _ (given c.args.record c.args.task) _ _ _ c.requires some _ c.extent.ensures _ c.new.ensures refl _ first.rating;
+      last = block_last _ _ (given c.args.record c.args.task) _ _ _ c.requires some _ c.extent.ensures _ c.new.ensures _ first.last;
     }
 
-pub new-requires : goal.new-requires
-new-requires c =
+pub new-requires-in-loop-k : goal.new-requires-in-loop-k
+new-requires-in-loop-k c =
     let l = rw c.count-k-end.ensures.count at c.loop-k-test.true in
     on_device _ _ (given c.args.record c.args.task) _ _ _ c.requires l _ c.extent-in-loop-k.ensures
 
-pub add_block-requires-in-loop-k : goal.add_block-requires-in-loop-k
-add_block-requires-in-loop-k c =
+pub add_block-requires : goal.add_block-requires
+add_block-requires c =
     let l = rw c.count-k-end.ensures.count at c.loop-k-test.true in
     let scoring = c.loop-k.invariant in
     record {
-      addable = block_addable _ _ (given c.args.record c.args.task) _ _ _ c.requires l _ c.extent-in-loop-k.ensures _ c.new.ensures _ scoring.rated;
-      home_is = next_shared _ _ (given c.args.record c.args.task) _ _ _ c.requires l _ c.extent-in-loop-k.ensures _ c.new.ensures c.loop-k.auto.k _ scoring;
+      addable = block_addable _ _ (given c.args.record c.args.task) _ _ _ c.requires l _ c.extent-in-loop-k.ensures _ c.new-in-loop-k.ensures _ scoring.rated;
+      home_is = next_shared _ _ (given c.args.record c.args.task) _ _ _ c.requires l _ c.extent-in-loop-k.ensures _ c.new-in-loop-k.ensures c.loop-k.auto.k _ scoring;
     }
 
 pub loop-k-preserved : goal.loop-k-preserved
 loop-k-preserved c =
     let l = rw c.count-k-end.ensures.count at c.loop-k-test.true in
-    let added = c.add_block-in-loop-k.ensures in
+    let added = c.add_block.ensures in
     record {
-      rated = next_rated _ _ (given c.args.record c.args.task) _ _ _ c.requires l _ c.extent-in-loop-k.ensures _ c.new.ensures c.loop-k.auto.k _ c.loop-k.invariant _ added.rating;
-      last = block_last _ _ (given c.args.record c.args.task) _ _ _ c.requires l _ c.extent-in-loop-k.ensures _ c.new.ensures _ added.last;
+      rated = next_rated _ _ (given c.args.record c.args.task) _ _ _ c.requires l _ c.extent-in-loop-k.ensures _ c.new-in-loop-k.ensures c.loop-k.auto.k _ c.loop-k.invariant _ added.rating;
+      last = block_last _ _ (given c.args.record c.args.task) _ _ _ c.requires l _ c.extent-in-loop-k.ensures _ c.new-in-loop-k.ensures _ added.last;
     }
 
 pub returns : goal.returns

@@ -3,6 +3,6 @@ use Rattle.std.proofs.Common.{sym, ◌∙◌}
 use Rattle.choice.specs.Laws.Homes.{housed}
 use Rattle.choice.proofs.tally.Tally.add_block.Goals as goal
 
-pub add_block-requires-clause-housed : goal.add_block-requires-clause-housed
-add_block-requires-clause-housed c =
+pub of-requires : goal.of-requires
+of-requires c =
     housed _ c.args.record.sound _ c.requires.addable.stands _ (c.requires.home_is (sym c.is_shared.ensures ∙ c.if-is_shared.true))
