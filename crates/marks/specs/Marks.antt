@@ -1,7 +1,7 @@
 -- The blocks of a task, marked in the bits of a card's columns. Assumes nothing.
-use Rattle.std.specs.Prelude.{ℕ, suc, ◌*◌, ◌/◌, ◌<◌, ◌≡◌, Bool, true, List}
-use Rattle.model.specs.Limits.{bytes, max_rows, max_columns, words}
-use Rattle.model.specs.Columns.{Device}
+use Rattle.std.specs.Prelude.{ℕ, suc, ◌+◌, ◌-◌, ◌*◌, ◌/◌, ◌%◌, ◌≤◌, ◌<◌, ◌≡◌, Bool, true, false, List}
+use Rattle.model.specs.Limits.{bytes, max_rows, max_columns, reach, words}
+use Rattle.model.specs.Columns.{Device, columns, kind, cells, height}
 use Rattle.model.specs.Tasks.{Block, blocks, block, well_formed}
 use Rattle.model.specs.Book.{Book, placed, held, block_fits, fits}
 use Rattle.model.specs.Record.{part}
@@ -24,6 +24,20 @@ words_of H c = part H (column_words * c) column_words
 pub record EntryPosition (p y : ℕ) : Type 0 where
   pub column : p < bytes
   pub bottom : y < words
+
+-- MODEL 6.2 to 6.4: the block k, moved to column p and bottom y, is on the device d, which has no more cells there, and its cells are those from a up to e
+pub record OnCells (d : Device) (k : Block) (p y a e : ℕ) : Type 0 where
+  pub column : p + k.column < columns d
+  pub kind : kind d (p + k.column) ≡ k.kind
+  pub above : reach ≤ y + k.low
+  pub grid : (y + k.low - reach) % height k.kind ≡ 0
+  pub first : a ≡ (y + k.low - reach) / height k.kind
+  pub last : e ≡ (y + k.high - reach) / height k.kind
+  pub below : e ≤ cells d (p + k.column)
+
+-- there it fits on no book
+abbrev pub FitsNowhere : Device → Block → ℕ → ℕ → Type 0
+FitsNowhere d k p y = (b : Book) → block_fits d b k p y ≡ false
 
 -- block j of t is k, and what the book b and the blocks before j hold is marked in H
 pub record BlockDue (d : Device) (H : List ℕ) (k : Block) (p y : ℕ) (b : Book) (t : List ℕ) (j : ℕ) : Type 0 where

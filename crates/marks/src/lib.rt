@@ -1,22 +1,24 @@
 // The blocks of a task, marked in the bits of a card's columns.
 #![tactic(auto)]
 
-ghost use Rattle.std.specs.Prelude.{◌≡◌, true, length, replicate, ◌<◌};
+ghost use Rattle.std.specs.Prelude.{◌≡◌, ◌+◌, ◌*◌, ◌<◌, ◌↔◌, true, length, replicate, IsTrue, MatchOption};
 ghost use Rattle.model.specs.Limits.{max_columns};
-ghost use Rattle.model.specs.Columns.{device_ok};
+ghost use Rattle.model.specs.Columns.{columns, kind as kind_of, device_ok};
+ghost use Rattle.model.specs.Kinds.{number_of};
 ghost use Rattle.model.specs.Blocks.{Solid};
 ghost use Rattle.model.specs.Record.{device_of};
 ghost use Rattle.task.specs.Blocks.{seen};
 ghost use Rattle.marks.specs.Device.{as_device};
-ghost use Rattle.marks.specs.Marks.{column_words, all_words, words_of, EntryPosition, BlockMarked, TaskMarked};
+ghost use Rattle.marks.specs.Marks.{column_words, all_words, words_of, OnCells, FitsNowhere, EntryPosition, BlockMarked, TaskMarked};
 
 use cells::mark;
-use model::{COLUMNS_AT, KINDS_AT, MAX_COLUMNS, MAX_ROWS, REACH, RECORD_SIZE, ROWS_AT};
+use model::{COLUMNS_AT, KINDS_AT, Kind, MAX_COLUMNS, MAX_ROWS, RECORD_SIZE, ROWS_AT};
+use std::ops::Range;
 use task::{Block, Position, Task};
 use words::get16;
 
 // The words of a column: a bit for each cell that it may have. And those of all columns.
-const COLUMN_WORDS: usize = MAX_ROWS as usize / 64;
+const COLUMN_WORDS: usize = MAX_ROWS as usize / 64; // `as`: in a constant std has no other form
 
 const ALL_WORDS: usize = COLUMN_WORDS * MAX_COLUMNS;
 
@@ -47,6 +49,45 @@ impl<'a> Device<'a> {
     }
 }
 
+impl Device<'_> {
+    // MODEL 6.2: whether column c is one of the device and has that kind. Not `SoundRecord::has_kind`: these bytes may be of no record that is sound.
+    #[tactic(auto, unfolding(model::specs::Columns::columns, model::specs::Columns::kind))]
+    fn has_kind(self, c: usize, kind: Kind) -> bool
+        ensures { IsTrue result ↔ ((c < columns (as_device self.entry)) × (kind_of (as_device self.entry) c ≡ number_of kind)) }
+    {
+        c < self.kinds.len() && self.kinds[c] == u8::from(kind)
+    }
+
+    // MODEL 6.2 to 6.4: the cells of a block that is moved to a position, where it stands on the grid of a column of its kind.
+    #[tactic(auto, using(crate::specs::Laws::Marks::few_rows, crate::specs::Laws::Marks::off_kind, crate::specs::Laws::Marks::off_grid, crate::specs::Laws::Marks::too_high, crate::specs::Laws::Marks::on_cells))]
+    fn cells_of(self, block: Block, at: Position) -> Option<Range<u32>>
+        requires device { device_ok (as_device self) ≡ true }
+        requires solid { Solid (seen block) }
+        requires position { EntryPosition at.column at.bottom }
+        ensures { MatchOption result (FitsNowhere (as_device self.entry) (seen block) at.column at.bottom) (λ run. OnCells (as_device self.entry) (seen block) at.column at.bottom run.start run.end) }
+    {
+        let c = at.column + block.extent.column;
+        if !self.has_kind(c, block.kind) || !block.on_grid(at.bottom) {
+            return None;
+        }
+        let rows = block.extent.rows_at(at.bottom);
+        if rows.top > 2 * self.rows {
+            return None;
+        }
+        Some(block.kind.cell(rows.bottom)..block.kind.cell(rows.top))
+    }
+}
+
+// Where the words of column c stand.
+fn words_at(c: usize) -> Range<usize>
+    requires { c < max_columns }
+    ensures start { result.start ≡ column_words * c }
+    ensures end { result.end ≡ column_words * c + column_words }
+{
+    let a = COLUMN_WORDS * c;
+    a..a + COLUMN_WORDS
+}
+
 impl HeldCells {
     // No cell is held.
     pub fn new() -> HeldCells
@@ -64,34 +105,22 @@ impl HeldCells {
         ensures words { result.now ≡ words_of self.now.words c }
         ensures len { length result.now ≡ column_words }
     {
-        let a = COLUMN_WORDS * c;
-        let e = a + COLUMN_WORDS;
-        &self.words[a..e]
+        &self.words[words_at(c)]
     }
 
     // Marks a block that is moved to a position, and says whether it fits.
+    #[tactic(auto, using(crate::specs::Laws::Marks::refused))]
     fn mark_block(&mut self, device: Device, block: Block, at: Position) -> bool
         requires device { device_ok (as_device device) ≡ true }
         requires solid { Solid (seen block) }
         requires position { EntryPosition at.column at.bottom }
         ensures { BlockMarked (as_device device.entry) self.old.words (seen block) at.column at.bottom self.new.words result }
     {
-        let c = (at.column + block.column) as usize;
-        if c >= device.kinds.len() || device.kinds[c] != u8::from(block.kind) {
+        let Some(run) = device.cells_of(block, at) else {
             return false;
-        }
-        let low = at.bottom + block.low;
-        if low < REACH || !block.kind.whole(low - REACH) {
-            return false;
-        }
-        let high = at.bottom + block.high - REACH;
-        if high > 2 * device.rows {
-            return false;
-        }
-        let a = COLUMN_WORDS * c;
-        let e = a + COLUMN_WORDS;
-        let run = block.kind.cell(low - REACH)..block.kind.cell(high);
-        mark(&mut self.words[a..e], run)
+        };
+        let c = at.column + block.extent.column;
+        mark(&mut self.words[words_at(c)], run)
     }
 
     // Marks the blocks of a task that is moved to a position, up to the first that does not fit, and says whether all fit.

@@ -1,4 +1,5 @@
-// MODEL 9: whether bytes are a sound record, in one pass over them. The cells that the running tasks hold are marked as bits, no cell twice, and
+// MODEL 9: whether bytes are a sound record, in one pass over them. It says what `record::sound` says, and stands beside it until it takes its
+// place, which is a change of its own: the laws and wrong programs of the other go then. The cells that the running tasks hold are marked as bits, no cell twice, and
 // the clear bits of each column are compared with its intervals.
 #![tactic(auto)]
 
@@ -17,10 +18,10 @@ ghost use Rattle.soundness.specs.Soundness.{TasksHeld, ColumnOk, ColumnsOk, Unus
 use cells::ColumnBits;
 use marks::{Device, HeldCells};
 use model::{
-    BLOCKS_AT, COLUMN_SIZE, COUNTS_AT, ENTRIES_AT, ENTRY_SIZE, INTERVALS_AT, KINDS_AT, Kind,
+    BLOCKS_AT, COLUMN_SIZE, COUNTS_AT, ENTRIES_AT, INTERVALS_AT, KINDS_AT, Kind,
     MAX_RUNNING, RECORD_SIZE,
 };
-use record::bytes::{part_at, read_entry, running};
+use record::bytes::{EntryBytes, entry_at, part_at, running};
 use record::device::device_ok;
 use record::sound::rises;
 use std::ops::Range;
@@ -90,7 +91,7 @@ impl<'a> Legible<'a> {
         self.zeros(KINDS_AT + columns..COUNTS_AT)
             && self.zeros(COUNTS_AT + columns..INTERVALS_AT)
             && self.zeros(INTERVALS_AT + COLUMN_SIZE * columns..ENTRIES_AT)
-            && self.zeros(ENTRIES_AT + ENTRY_SIZE * running(self.bytes)..RECORD_SIZE)
+            && self.zeros(entry_at(running(self.bytes))..RECORD_SIZE)
     }
 
     // MODEL 9.3 to 9.6: marks the cells of running entry j, and says whether it is one of a sound record. Its blocks are read where they stand
@@ -103,12 +104,12 @@ impl<'a> Legible<'a> {
         if !rises(self.bytes, j) {
             return false;
         }
-        let Some(entry) = read_entry(self.bytes, j) else {
+        let bytes = self.bytes;
+        let Some(entry) = (EntryBytes { bytes, j }).read() else {
             return false;
         };
-        let at = ENTRIES_AT + ENTRY_SIZE * j;
-        let used = at + BLOCKS_AT + entry.task.bytes.len();
-        if !self.zeros(used..at + ENTRY_SIZE) {
+        let used = entry_at(j) + BLOCKS_AT + entry.task.bytes.len();
+        if !self.zeros(used..entry_at(j + 1)) {
             return false;
         }
         held.mark_task(self.device, entry.task, entry.at)

@@ -21,19 +21,16 @@ use Rattle.model.specs.Parts.{splice}
 use Rattle.model.proofs.Laws.Parts.{list_parts, part_splice, part_splice_below, part_splice_above}
 use Rattle.cells.specs.Bits.{cell_bit, RunIn, Marked}
 use Rattle.cells.specs.Laws.Book.{Shown, held_with, BlockAt, shown_none, shown_mark, shown_free, earlier_apart}
-use Rattle.marks.specs.Marks.{column_words, all_words, words_of, BlockDue, BlockMarked, TaskMarked}
+use Rattle.marks.specs.Marks.{column_words, all_words, words_of, OnCells, FitsNowhere, BlockDue, BlockMarked, TaskMarked}
 
 -- a multiple of h, by its quotient
 quotient : (h z : ℕ) → z % h ≡ 0 → z ≡ h * (z / h)
 quotient h z e = omega (arith, div-add-mod z h)
 
 module _ (d : Device) (H : List ℕ) (k : Block) (p y : ℕ) where
-  -- a test that fails
-  pub refused : ((b : Book) → Fitting d b k p y → ⊥) → BlockMarked d H k p y H false
-  refused f = record {
-    answers = λ b t j x. sym (is_false (block_fits d b k p y) (λ h. f b (fitting_to d b k p y h)));
-    marks = λ b t j x e. absurd (false≢true e);
-  }
+  -- a block that fits nowhere
+  pub refused : FitsNowhere d k p y → BlockMarked d H k p y H false
+  refused f = record { answers = λ b t j x. sym (f b); marks = λ b t j x e. absurd (false≢true e); }
 
   module _ (s : Solid k) where
     abbrev h : ℕ
@@ -45,17 +42,7 @@ module _ (d : Device) (H : List ℕ) (k : Block) (p y : ℕ) where
     abbrev high : ℕ
     high = y + k.high - reach
 
-    -- where all tests pass but the last
-    pub record Tested (a e : ℕ) : Type 0 where
-      pub column : p + k.column < columns d
-      pub kind : kind d (p + k.column) ≡ k.kind
-      pub above : reach ≤ y + k.low
-      pub grid : low % h ≡ 0
-      pub first : a ≡ low / h
-      pub last : e ≡ high / h
-      pub below : e ≤ cells d (p + k.column)
-
-    module _ {a e : ℕ} (x : Tested a e) where
+    module _ {a e : ℕ} (x : OnCells d k p y a e) where
       bottom_is : low ≡ h * a
       bottom_is = rw x.first (quotient h low x.grid)
 
@@ -160,54 +147,52 @@ unfolding device_of part
 device_said r n k l p q h =
     rw (add-sub_cancel_left, p, ← q) (ap (λ (ks : List ℕ). record { rows = word r rows_at; kinds = ks }) (sym (list_parts r kinds_at k 0 (omega arith))))
 
--- what the code reads and tests
+-- ---- where a block is
+
+module _ (d : Device) (k : Block) (p y : ℕ) where
+  nowhere : ((b : Book) → Fitting d b k p y → ⊥) → FitsNowhere d k p y
+  nowhere f b = is_false (block_fits d b k p y) (λ h. f b (fitting_to d b k p y h))
+
+  pub off_kind : (n : ℕ) → n ≡ k.kind → ¬ ((p + k.column < columns d) × (kind d (p + k.column) ≡ n)) → FitsNowhere d k p y
+  off_kind n e g = nowhere (λ b f. g (f.column, f.kind ∙ sym e))
+
+  pub off_grid : ¬ ((reach ≤ y + k.low) × ((y + k.low - reach) % height k.kind ≡ 0)) → FitsNowhere d k p y
+  off_grid g = nowhere (λ b f. g (f.above, f.grid))
+
+  pub too_high : 2 * d.rows < y + k.high - reach → FitsNowhere d k p y
+  too_high l = nowhere (λ b f. omega (arith, f.below, top_le d (p + k.column)))
+
+  pub on_cells : (a e n : ℕ) → n ≡ k.kind → (p + k.column < columns d) × (kind d (p + k.column) ≡ n)
+      → (reach ≤ y + k.low) × ((y + k.low - reach) % height k.kind ≡ 0)
+      → a ≡ (y + k.low - reach) / height k.kind → e ≡ (y + k.high - reach) / height k.kind → y + k.high - reach ≤ 2 * d.rows → OnCells d k p y a e
+  unfolding cells cells_in
+  on_cells a e n u (l, v) (g, w) i j f =
+      let is : kind d (p + k.column) ≡ k.kind = v ∙ u in
+      let h = height k.kind in
+      record {
+        column = l;
+        kind = is;
+        above = g;
+        grid = w;
+        first = i;
+        last = j;
+        below = rw (is, j) ((le-div_iff_mul-le (height_pos k.kind)).1 (omega (arith, mul-div-le (y + k.high - reach) h)));
+      }
+
+-- its column is one of a record's
+pub on_card : (d : Device) (k : Block) (p y : ℕ) {a e : ℕ} → device_ok d ≡ true → OnCells d k p y a e → p + k.column < max_columns
+unfolding columns
+on_card d k p y ok x = omega (arith, few_columns d ok, x.column)
+
 module _ (d : Device) (H : List ℕ) (k : Block) (p y : ℕ) where
-  pub refused_column : length d.kinds ≤ p + k.column → BlockMarked d H k p y H false
-  unfolding columns
-  refused_column l = refused d H k p y (λ b f. omega (arith, f.column))
-
-  pub refused_kind : (n : ℕ) → n ≡ k.kind → ¬ (get_or d.kinds (p + k.column) 0 ≡ n) → BlockMarked d H k p y H false
-  unfolding kind
-  refused_kind n e g = refused d H k p y (λ b f. g (f.kind ∙ sym e))
-
-  pub refused_low : y + k.low < reach → BlockMarked d H k p y H false
-  refused_low l = refused d H k p y (λ b f. omega (arith, f.above))
-
-  pub refused_grid : (t : Bool) → t ≡ eqb ((y + k.low - reach) % height k.kind) 0 → t ≡ false → BlockMarked d H k p y H false
-  refused_grid t e g = refused d H k p y (λ b f. eqb-false _ 0 (sym e ∙ g) f.grid)
-
-  pub refused_high : 2 * d.rows < y + k.high - reach → BlockMarked d H k p y H false
-  refused_high l = refused d H k p y (λ b f. omega (arith, f.below, top_le d (p + k.column)))
-
   module _ (s : Solid k) where
-    pub tested : (a e n : ℕ) (t : Bool) → p + k.column < length d.kinds → n ≡ k.kind → get_or d.kinds (p + k.column) 0 ≡ n → reach ≤ y + k.low
-        → t ≡ eqb ((y + k.low - reach) % height k.kind) 0 → t ≡ true → a ≡ (y + k.low - reach) / height k.kind → e ≡ (y + k.high - reach) / height k.kind
-        → y + k.high - reach ≤ 2 * d.rows → Tested d H k p y s a e
-    unfolding cells cells_in columns kind
-    tested a e n t l u v g w x i j f =
-        let is : kind d (p + k.column) ≡ k.kind = v ∙ u in
-        let h = height k.kind in
-        record {
-          column = l;
-          kind = is;
-          above = g;
-          grid = eqb-true _ 0 (sym w ∙ x);
-          first = i;
-          last = j;
-          below = rw (is, j) ((le-div_iff_mul-le (height_pos k.kind)).1 (omega (arith, mul-div-le (y + k.high - reach) h)));
-        }
-
     -- ---- the words as they are lent
 
-    module _ (ok : device_ok d ≡ true) (w : length H ≡ all_words) {a e : ℕ} (x : Tested d H k p y s a e) where
-      pub on_card : p + k.column < max_columns
-      unfolding columns
-      on_card = omega (arith, few_columns d ok, x.column)
-
+    module _ (v : device_ok d ≡ true) (w : length H ≡ all_words) {a e : ℕ} (x : OnCells d k p y a e) where
       pub run_of : RunIn (lent_words H (p + k.column)) a e
       run_of =
-          let n = few_cells d ok (p + k.column) in
-          let l = lent_length H (p + k.column) w on_card in
+          let n = few_cells d v (p + k.column) in
+          let l = lent_length H (p + k.column) w (on_card d k p y v x) in
           record { some = some_cells d H k p y s x; room = omega (arith, x.below); short = omega arith }
 
       pub block_marked : (N U : List ℕ) (ok : Bool) → Marked (lent_words H (p + k.column)) a e N ok → length N ≡ column_words → U ≡ splice H (column_words * (p + k.column)) column_words N → BlockMarked d H k p y U ok
@@ -215,7 +200,7 @@ module _ (d : Device) (H : List ℕ) (k : Block) (p y : ℕ) where
       block_marked N U ok m l u =
           let c = p + k.column in
           let whole : column_words * c + column_words - column_words * c ≡ column_words = omega arith in
-          let fits : column_words * c + column_words ≤ length H = omega (arith, w, on_card) in
+          let fits : column_words * c + column_words ≤ length H = omega (arith, w, on_card d k p y v x) in
           let here : words_of U c ≡ N = ap (λ (l : List ℕ). words_of l c) u ∙ part_splice H (column_words * c) column_words N fits l in
           answered d H k p y s x U ok (rw here (rw whole at m))
           (λ i n. ap (λ (l : List ℕ). words_of l i) u ∙ other i fits n (lt_or_ge i c))
