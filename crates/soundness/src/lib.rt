@@ -1,6 +1,6 @@
-// MODEL 9: whether bytes are a sound record, in one pass over them. It says what `record::sound` says, and stands beside it until it takes its
-// place, which is a change of its own: the laws and wrong programs of the other go then. The cells that the running tasks hold are marked as bits, no cell twice, and
+// MODEL 9: whether bytes are a sound record, in one pass over them. The cells that the running tasks hold are marked as bits, no cell twice, and
 // the clear bits of each column are compared with its intervals.
+// It says what `record::sound` says, and takes its place in a change of its own: the laws and the wrong programs of the other go then.
 #![tactic(auto)]
 
 ghost use Rattle.std.specs.Prelude.{◌≡◌, ◌↔◌, ◌+◌, ◌≤◌, ◌<◌, IsTrue, MatchOption, EachIndex, slice_index, length, get_or, replicate, true, false};
@@ -18,7 +18,7 @@ ghost use Rattle.soundness.specs.Soundness.{TasksHeld, ColumnOk, ColumnsOk, Unus
 use cells::ColumnBits;
 use marks::{Device, HeldCells};
 use model::{
-    BLOCKS_AT, COLUMN_SIZE, COUNTS_AT, ENTRIES_AT, INTERVALS_AT, KINDS_AT, Kind,
+    BLOCKS_AT, COLUMN_SIZE, COUNTS_AT, ENTRIES_AT, ENTRY_SIZE, INTERVALS_AT, KINDS_AT, Kind,
     MAX_RUNNING, RECORD_SIZE,
 };
 use record::bytes::{EntryBytes, entry_at, part_at, running};
@@ -108,8 +108,9 @@ impl<'a> Legible<'a> {
         let Some(entry) = (EntryBytes { bytes, j }).read() else {
             return false;
         };
-        let used = entry_at(j) + BLOCKS_AT + entry.task.bytes.len();
-        if !self.zeros(used..entry_at(j + 1)) {
+        let at = entry_at(j);
+        let used = at + BLOCKS_AT + entry.task.bytes.len();
+        if !self.zeros(used..at + ENTRY_SIZE) {
             return false;
         }
         held.mark_task(self.device, entry.task, entry.at)

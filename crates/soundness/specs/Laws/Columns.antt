@@ -1,6 +1,6 @@
 -- Why the columns' pass is right. Assumes nothing.
 use Rattle.std.specs.Prelude.{ℕ, ◌+◌, ◌*◌, ◌≤◌, ◌<◌, ◌≡◌, true, List, length, get_or, take, Result, Ok, Err, IsOk}
-use Rattle.std.proofs.Common.{refl, sym, ap, ◌∙◌, arith, below_more, length-take, length-drop, take_all}
+use Rattle.std.proofs.Common.{refl, ap, ◌∙◌, arith, below_more, take_all}
 use Rattle.std.proofs.Math.Nat.{mul-div-le}
 use Rattle.model.specs.Limits.{max_columns, max_kind, column_size, columns_at, counts_at, running_at}
 use Rattle.model.specs.Columns.{Device, columns, kind, cells, cells_in, height, device_ok}
@@ -10,15 +10,15 @@ use Rattle.model.specs.declared.UnknownKind.{UnknownKind}
 use Rattle.model.proofs.Laws.Kinds.{kind_known, kind_unknown}
 use Rattle.model.specs.Book.{intervals}
 use Rattle.model.specs.Record.{part, column_at, device_of, book_of}
-use Rattle.model.specs.Sound.{within, count_of, sound}
+use Rattle.model.specs.Sound.{within, sound}
 use Rattle.model.proofs.Laws.Record.{record_column, record_count}
 use Rattle.model.proofs.Laws.WriteBack.{Bytes}
 use Rattle.model.proofs.Laws.Sound.{columns_said, running_said, sound_record}
 use Rattle.cells.specs.Ends.{PartIs, bit_intervals}
 use Rattle.cells.specs.Laws.Book.{shown_intervals}
 use Rattle.cells.specs.Laws.Writes.{Fillable}
-use Rattle.marks.specs.Marks.{column_words, all_words, words_of}
-use Rattle.marks.specs.Laws.Marks.{few_columns, few_rows, few_cells}
+use Rattle.marks.specs.Marks.{column_words, words_of}
+use Rattle.marks.specs.Laws.Marks.{few_rows, few_cells}
 use Rattle.soundness.specs.Soundness.{TasksHeld, ColumnOk, ColumnsOk}
 
 -- the device that was read of r

@@ -1,34 +1,29 @@
 -- Why the entries' pass is right: in a sound record every running task passes each test, and one that passes is within the limits. Assumes nothing.
-use Prim.Native.Nat.{ℕ, ◌+◌, ◌*◌, ◌%◌, ◌≤◌, ◌<◌}
-use Rattle.std.specs.Prelude.{◌≡◌, Bool, false, ◌||◌, List, length, take, ltb, Err, IsErrOf}
+use Prim.Native.Nat.{ℕ, ◌+◌, ◌*◌, ◌<◌}
+use Rattle.std.specs.Prelude.{◌≡◌, Bool, false, ◌||◌, List, length, take}
 use Rattle.std.proofs.Math.Path.{refl, sym, ap}
-use Rattle.std.proofs.Common.{◌∙◌, add-one, le-leb, eq-eqb, ne_eqb, take-suc, length-take-le}
+use Rattle.std.proofs.Common.{◌∙◌, add-one, take-suc, length-take-le}
 use Rattle.std.proofs.Math.Bool.{true, or_comm}
 use native.Mathlib.Omega.{arith}
 use borrow.Author.Count.{below_more}
-use Rattle.model.specs.Limits.{max_blocks, block_size, words}
+use Rattle.model.specs.Limits.{block_size, words}
 use Rattle.model.specs.Columns.{Device, kind, height}
-use Rattle.model.specs.Tasks.{word, sized, well_formed}
+use Rattle.model.specs.Tasks.{word}
 use Rattle.model.specs.Book.{Running, Book, placed, standing, covered, held, fits}
 use Rattle.model.specs.Record.{entry_at, device_of, book_of}
 use Rattle.model.specs.Sound.{block_count, sound}
 use Rattle.model.specs.Calls.{insert}
 use Rattle.model.specs.Bounded.{In}
 use Rattle.model.specs.InPlace.{no_entry}
-use Rattle.runs.specs.Laws.Tests.{tests}
-use Rattle.model.proofs.Laws.Tasks.{sized_to}
 use Rattle.model.proofs.Laws.Bounded.{clash, is_false}
-use Rattle.model.proofs.Laws.Limits.{Entry, limits_to}
+use Rattle.model.proofs.Laws.Limits.{limits_to}
 use Rattle.model.proofs.Laws.Split.{fits_split, held_insert}
 use Rattle.model.proofs.Laws.Kept.{insert_within}
-use Rattle.model.proofs.Laws.Clauses.{clauses_to}
 use Rattle.model.proofs.Laws.WriteBack.{Bytes}
-use Rattle.model.proofs.Laws.ReadBack.{get_d_in}
-use Rattle.model.proofs.Laws.Sound.{sound_within}
 use Rattle.marks.specs.Marks.{EntryPosition, TaskMarked}
 use Rattle.record.specs.Entries.{entry_of, bytes_entry, HasEntry, HasTask}
 use Rattle.record.specs.Laws.Said.{number_said, in_book, entry_by_bytes, blocks_length}
-use Rattle.record.specs.Laws.Before.{prior_above, insert_last, fits_among}
+use Rattle.record.specs.Laws.Before.{prior_above, insert_last}
 use Rattle.record.specs.Rebuild.{Passes}
 use Rattle.record.specs.Laws.Rebuild.{sound_fits}
 use Rattle.soundness.specs.Soundness.{RestZero, TasksHeld, Judged}

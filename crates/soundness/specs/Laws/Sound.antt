@@ -7,21 +7,20 @@ use Rattle.std.proofs.lemmas.List.{get_or-replicate, length-replicate}
 use Rattle.std.proofs.Math.ListN.{get_or-eq_default}
 use Rattle.runs.specs.Laws.Tests.{lt_or_ge}
 use Rattle.runs.specs.Laws.Intervals.{intervals_free}
-use Rattle.model.specs.Limits.{bytes, max_columns, max_intervals, max_running, record_size, rows_at, columns_at, running_at, kinds_at, counts_at, column_size, interval_size, entry_size}
+use Rattle.model.specs.Limits.{max_columns, max_intervals, max_running, record_size, columns_at, running_at, counts_at, column_size, interval_size, entry_size}
 use Rattle.model.specs.Bounded.{any_in}
 use Rattle.model.specs.Columns.{top, device_ok}
-use Rattle.model.specs.Tasks.{word}
 use Rattle.model.specs.Book.{held, free, intervals}
 use Rattle.model.specs.Record.{part, column_at, entry_at, listed_intervals, device_of, book_of}
 use Rattle.model.specs.Sound.{count_of, used, sound}
-use Rattle.model.proofs.Laws.Bounded.{is_false, clash, same_test}
+use Rattle.model.proofs.Laws.Bounded.{is_false, same_test}
 use Rattle.model.proofs.Laws.Columns.{top_le}
-use Rattle.model.proofs.Laws.Parts.{part_byte, list_parts}
-use Rattle.model.proofs.Laws.Limits.{limits_to, within_device}
+use Rattle.model.proofs.Laws.Parts.{part_byte}
+use Rattle.model.proofs.Laws.Limits.{limits_to}
 use Rattle.model.proofs.Laws.Cells.{few_intervals}
 use Rattle.model.proofs.Laws.Kept.{within_new}
-use Rattle.model.proofs.Laws.Clauses.{Zero, clauses_to, clauses_of}
-use Rattle.model.proofs.Laws.Sound.{columns_said, running_said, sound_length, sound_within}
+use Rattle.model.proofs.Laws.Clauses.{Zero, clauses_of}
+use Rattle.model.proofs.Laws.Sound.{columns_said, running_said}
 use Rattle.model.proofs.Laws.WriteBack.{Bytes}
 use Rattle.std.specs.Bool.{Decides}
 use Rattle.column.specs.Laws.Part.{encodes, free_small}

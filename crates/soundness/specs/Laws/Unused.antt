@@ -1,12 +1,12 @@
 -- MODEL 9.8: the unused bytes of a record, tested part by part. Assumes nothing.
-use Rattle.std.specs.Prelude.{ℕ, ◌+◌, ◌-◌, ◌*◌, ◌/◌, ◌≤◌, ◌<◌, ◌≡◌, ◌⊎◌, Bool, true, false, List, get_or, take, drop}
+use Rattle.std.specs.Prelude.{ℕ, ◌+◌, ◌-◌, ◌/◌, ◌≤◌, ◌<◌, ◌≡◌, ◌⊎◌, Bool, true, false, List, get_or, take, drop}
 use Rattle.std.proofs.Common.{sym, ◌∙◌, inl, inr, arith, lt-ltb, le-ltb, length-take, get_or-take, get_or-drop}
 use Rattle.std.specs.Bool.{Decides}
 use Rattle.std.proofs.Math.ListN.{get_or-eq_default}
 use Rattle.runs.specs.Laws.Tests.{lt_or_ge}
-use Rattle.model.specs.Limits.{block_size, record_size, columns_at, running_at, kinds_at, counts_at, intervals_at, column_size, entries_at, blocks_at, entry_size}
+use Rattle.model.specs.Limits.{record_size, columns_at, running_at, kinds_at, counts_at, intervals_at, column_size, entries_at, entry_size}
 use Rattle.model.specs.Record.{column_at, entry_at}
-use Rattle.model.specs.Sound.{block_count, count_of, used, sound}
+use Rattle.model.specs.Sound.{count_of, used, sound}
 use Rattle.model.proofs.Laws.Bounded.{true_or_false}
 use Rattle.model.proofs.Laws.Clauses.{Zero, clauses_to}
 use Rattle.words.specs.Words.{AllZero}

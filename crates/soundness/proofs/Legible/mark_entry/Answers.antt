@@ -1,5 +1,5 @@
 -- `soundness::Legible::mark_entry` meets its contract: an entry of a sound record passes each test. Assumes nothing.
-use Rattle.std.proofs.Common.{ℕ, ◌<◌, get_or, arith}
+use Rattle.std.proofs.Common.{ℕ, ◌<◌, get_or}
 use Rattle.std.proofs.lemmas.Bool.Decides.{not_from_Decides}
 use Rattle.model.specs.Limits.{running_at}
 use Rattle.model.specs.Sound.{sound}
@@ -25,7 +25,7 @@ pub returns-then-not-zeros : goal.returns-then-not-zeros
 returns-then-not-zeros c =
     let x = has c.args.self.now c.requires.runs in
     let (h, i) = c.in-Some.ensures in
-    let rest = rw (task_length _ _ x h _ i) at c.zeros.ensures in
+    let rest = rw (c.entry_at-at.ensures, task_length _ _ x h _ i) at c.zeros.ensures in
     judged_no (is_false (sound _) (λ s. not_from_Decides _ rest c.if-not-zeros.true (rest_unused _ s _ x)))
 
 pub mark_task-requires-clause-position : goal.mark_task-requires-clause-position
@@ -36,5 +36,5 @@ returns c =
     let s = c.args.self.now in
     let x = has s c.requires.runs in
     let (h, i) = c.in-Some.ensures in
-    let rest = rw (task_length _ _ x h _ i) at c.zeros.ensures in
+    let rest = rw (c.entry_at-at.ensures, task_length _ _ x h _ i) at c.zeros.ensures in
     step_entry _ _ x h _ c.requires.tasks (passed _ _ x _ c.rises.ensures c.if-not-rises.false h) s.octets _ i (rest.0 c.if-not-zeros.false) _ _ (rw s.said at c.mark_task.ensures)

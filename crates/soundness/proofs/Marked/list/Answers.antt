@@ -2,7 +2,7 @@
 use Rattle.std.proofs.Common.{sym, ◌∙◌}
 use Rattle.model.proofs.Laws.Record.{column_part_nil}
 use Rattle.marks.specs.Laws.Marks.{few_rows, kind_low}
-use Rattle.soundness.specs.Laws.Columns.{kinds_said, kind_read, fillable, part_is}
+use Rattle.soundness.specs.Laws.Columns.{kind_read, fillable, part_is}
 use Rattle.soundness.proofs.Marked.list.Goals as goal
 
 pub unwrap-kind-requires : goal.unwrap-kind-requires
