@@ -11,3 +11,4 @@ pub mod Streaming
 pub mod Lcm
 pub mod Meet
 pub mod Both
+pub mod Stepped
