@@ -4,7 +4,7 @@
 ghost use Rattle.std.specs.Prelude.{◌≡◌, not, ◌≤◌, ◌<◌, eqb, replicate};
 ghost use Rattle.sets.specs.Forest.{Falls, at, root as root_of, union, Alone, max_nodes};
 
-// A forest of N nodes. A node is an index, and its parent is not above it; a root is its own parent.
+// A forest of N nodes. A node is an index, and its parent is not above it; a root is its own parent. Indices stand for links, since there is no heap.
 #[derive(Drop)]
 pub struct Forest<const N: usize> {
     pub parents: [u16; N],
@@ -27,6 +27,7 @@ impl<const N: usize> Forest<N> {
         ensures { Alone n self.new.parents }
     {
         for i in 0..n {
+            // as: a node is below 2^16, since N is no more than that
             self.parents[i] = i as u16;
         }
     }
@@ -59,6 +60,7 @@ impl<const N: usize> Forest<N> {
         if a == b {
             return false;
         }
+        // as: a node is below 2^16, since N is no more than that
         self.parents[a.max(b)] = a.min(b) as u16;
         true
     }
