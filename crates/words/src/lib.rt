@@ -25,21 +25,17 @@ pub fn put16(s: &mut [u8], at: usize, v: u32)
     requires { (at + 1 < length s.old) × (v < words) }
     ensures { s.new ≡ splice s.old at 2 (bytes16 v) }
 {
+    // as: below 2^16, by the clause
     let [low, high] = (v as u16).to_le_bytes();
     s[at] = low;
     s[at + 1] = high;
 }
 
-// Are all bytes 0? The loop has no exit but its end, as `all` has, so that it vectorises.
-#[tactic(auto, using(crate::specs::Laws::Zeros::ored_next))]
+// Are all bytes 0? The chain has no exit but its end, as `all` has, so that it vectorises.
 fn all_zeros(s: &[u8]) -> bool
     ensures { AllZero s.now result }
 {
-    let mut all = 0;
-    for byte in s {
-        all |= *byte;
-    }
-    all == 0
+    s.iter().fold(0, |all, byte| all | *byte) == 0
 }
 
 // The same, faster: whole blocks, and then the last block once more, so that no bytes are left over to be looked at one by one.

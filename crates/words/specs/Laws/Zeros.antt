@@ -1,6 +1,7 @@
 -- Bytes or-ed together, which is 0 just where all of them are. Assumes nothing.
-use Rattle.std.specs.Prelude.{ℕ, ◌+◌, ◌-◌, ◌≤◌, ◌<◌, ◌≡◌, refl, ◌⊎◌, Bool, true, false, List, eqb, length, get_or, take, drop}
-use Rattle.std.proofs.Common.{sym, ◌∙◌, inl, inr, arith, length-take, get_or-take, get_or-drop, eqb-true, below_more}
+use Rattle.std.specs.Prelude.{ℕ, zero, suc, ◌+◌, ◌-◌, ◌≤◌, ◌<◌, ◌≡◌, refl, ◌⊎◌, Bool, true, false, List, [], ◌∷◌, eqb, get_or, take, drop}
+use Rattle.std.proofs.Common.{sym, ◌∙◌, inl, inr, arith, length-take, get_or-take, get_or-drop, eqb-true}
+use Rattle.std.specs.List.{fold}
 use Rattle.std.proofs.lemmas.Bool.{false≢true, eqb-false}
 use Rattle.std.specs.Int.Bits.{bit_or, or_add_and}
 use Rattle.std.proofs.lemmas.Nat.{and_le_l, and_le_r}
@@ -14,29 +15,26 @@ or_none a b e = (omega (arith, or_add_and a b, and_le_r a b), omega (arith, or_a
 pub or_zero : (a b : ℕ) → a ≡ 0 → b ≡ 0 → bit_or a b ≡ 0
 or_zero a b e f = omega (arith, or_add_and a b)
 
--- the first i bytes are or-ed into `all`
-pub record Ored (p : List ℕ) (i all : ℕ) : Type 0 where
-  pub clear : all ≡ 0 → (j : ℕ) → j < i → get_or p j 0 ≡ 0
-  pub none : ((j : ℕ) → get_or p j 0 ≡ 0) → all ≡ 0
-
-pub ored_start : (p : List ℕ) → Ored p 0 0
-ored_start p = record { clear = λ e j q. absurd (omega arith); none = λ f. refl }
-
-pub ored_next : (p : List ℕ) (i all : ℕ) → Ored p i all → Ored p (i + 1) (bit_or all (get_or p i 0))
-ored_next p i all o = record {
-  clear = λ e. let (a, b) = or_none all (get_or p i 0) e in below_more _ i (o.clear a) b;
-  none = λ f. or_zero all (get_or p i 0) (o.none f) (f i);
-}
-
-pub ored_end : (p : List ℕ) (i all : ℕ) → length p ≤ i → Ored p i all → AllZero p (eqb all 0)
-ored_end p i all l o = record {
-  yes = λ e j. go (eqb-true all 0 e) j (lt_or_ge j i);
-  no = λ e f. eqb-false all 0 e (o.none f);
-}
+-- all of p or-ed to a, which is 0 just where a and all of p are
+ored_none : (p : List ℕ) (a : ℕ) → fold bit_or a p ≡ 0 → (a ≡ 0) × ((j : ℕ) → get_or p j 0 ≡ 0)
+ored_none [] a e = (e, λ j. refl)
+ored_none (x ∷ p) a e =
+    let (f, g) = ored_none p (bit_or a x) e in
+    ((or_none a x f).0, go (or_none a x f).1 g)
   where
-    go : all ≡ 0 → (j : ℕ) → (j < i) ⊎ (i ≤ j) → get_or p j 0 ≡ 0
-    go e j (inl q) = o.clear e j q
-    go e j (inr q) = get_or-eq_default p 0 (omega arith)
+    go : x ≡ 0 → ((j : ℕ) → get_or p j 0 ≡ 0) → (j : ℕ) → get_or (x ∷ p) j 0 ≡ 0
+    go h g zero = h
+    go h g (suc j) = g j
+
+ored_zero : (p : List ℕ) (a : ℕ) → a ≡ 0 → ((j : ℕ) → get_or p j 0 ≡ 0) → fold bit_or a p ≡ 0
+ored_zero [] a e f = e
+ored_zero (x ∷ p) a e f = ored_zero p (bit_or a x) (or_zero a x e (f 0)) (λ j. f (suc j))
+
+pub ored_tells : (p : List ℕ) → AllZero p (eqb (fold bit_or 0 p) 0)
+ored_tells p = record {
+  yes = λ e. (ored_none p 0 (eqb-true _ 0 e)).1;
+  no = λ e f. eqb-false _ 0 e (ored_zero p 0 refl f);
+}
 
 -- ---- a list in two parts, which may overlap
 
