@@ -1,12 +1,15 @@
 -- MODEL 13.1 and 21.6: what the checks before a call answer, that they passed, or a refusal of the table. Assumes nothing.
 use Rattle.std.specs.Prelude.{ℕ, ◌<◌, ◌≡◌, true, false, List, [], ℤ, pos, length, Option, Some, None}
 use Rattle.model.specs.Limits.{max_running}
-use Rattle.model.specs.Columns.{Device}
+use Rattle.model.specs.Columns.{Device, columns}
 use Rattle.model.specs.Book.{Book, fits, fits_at}
 use Rattle.model.specs.Record.{device_of, book_of}
-use Rattle.model.specs.Sound.{sound, number_ok}
+use Rattle.model.specs.Sound.{sound, count_of, number_ok}
 use Rattle.model.specs.Calls.{Call, list, choose, place, release, lent, runs_in}
 use Rattle.model.specs.OnRecord.{on_record, interval_count, view, fragmentation}
+use Rattle.column.specs.declared.Column.{Column}
+use Rattle.column.specs.Laws.Lent.{lent as lent_part}
+use Rattle.record.specs.declared.bytes.Entry.{Entry}
 use Rattle.listing.specs.Columns.{Given}
 use Rattle.task.specs.declared.Position.{Position}
 use Rattle.card.specs.declared.refusal.Refusal.{Refusal}
@@ -19,6 +22,13 @@ Refused r c e = on_record r c ≡ record { answer = number_of e; output = lent c
 -- MODEL 16.3: the interval count of column k is refused with e and changes nothing, and its view is empty
 abbrev pub Uncounted : List ℕ → ℕ → Refusal → Type 0
 Uncounted r k e = (interval_count r k ≡ record { answer = number_of e; output = []; state = r }) × ([] ≡ view r k)
+
+-- MODEL 16.1: column k is one of the device of the sound record r, and c is its part and its count
+pub record Lists (r : List ℕ) (k : ℕ) (c : Column) : Type 0 where
+  pub sound : sound r ≡ true
+  pub on : k < columns (device_of r)
+  pub part_is : c.part.now ≡ lent_part r k
+  pub count_is : c.count ≡ count_of r k
 
 -- MODEL 22.6: the fragmentation is refused with e, gives two zeros, and changes nothing of the record
 abbrev pub Unmeasured : List ℕ → Refusal → Type 0
@@ -44,15 +54,17 @@ abbrev pub FindsFit : Device → Book → List ℕ → ℕ → ℤ → Option Po
 FindsFit d b t p y (Some at) = (at.column ≡ p) × (pos at.bottom ≡ y) × (fits d b t at.column at.bottom ≡ true)
 FindsFit d b t p y None = fits_at d b t p y ≡ false
 
--- MODEL 13.1: place is called with these arguments, and no row holds; the position is that of column p and bottom y
-pub record Placing (r t : List ℕ) (n p : ℕ) (y : ℤ) (at : Position) : Type 0 where
+-- MODEL 13.1: place is called with these arguments, and no row holds; e is what enters the record
+pub record Placing (r t : List ℕ) (n p : ℕ) (y : ℤ) (e : Entry) : Type 0 where
   pub given : Given r t
   pub number : number_ok n ≡ true
   pub new : runs_in (book_of r) n ≡ false
   pub room : length (book_of r) < max_running
-  pub column_is : at.column ≡ p
-  pub bottom_is : pos at.bottom ≡ y
-  pub fits : fits (device_of r) (book_of r) t at.column at.bottom ≡ true
+  pub number_is : e.number ≡ n
+  pub task_is : e.task.bytes.now ≡ t
+  pub column_is : e.at.column ≡ p
+  pub bottom_is : pos e.at.bottom ≡ y
+  pub fits : fits (device_of r) (book_of r) t e.at.column e.at.bottom ≡ true
 
 -- MODEL 13.1: release is called with that number, and no row holds
 pub record Releasing (r : List ℕ) (n : ℕ) : Type 0 where

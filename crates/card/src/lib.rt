@@ -5,20 +5,21 @@
 #![tactic(auto)]
 
 ghost use Rattle.std.specs.Prelude.{◌≡◌, ◌<◌, not, ◌||◌, ◌^◌, [], pos, IfOk, MatchResult};
-ghost use Rattle.model.specs.Columns.{columns};
 ghost use Rattle.model.specs.Record.{device_of, book_of};
 ghost use Rattle.model.specs.Sound.{number_ok};
 ghost use Rattle.model.specs.Calls.{list, choose, place, release, runs_in};
 ghost use Rattle.model.specs.OnRecord.{on_record, new, interval_count, view, fragmentation};
 ghost use Rattle.card.specs.Refusals.{of_record, of_task};
 ghost use Rattle.card.specs.Leaves.{Leaves, Changes, Tells};
-ghost use Rattle.card.specs.Checks.{RefusesRecord, RefusesTask, Refused, Uncounted, FindsFit, Placing, Releasing};
+ghost use Rattle.card.specs.Checks.{RefusesRecord, RefusesTask, Refused, Uncounted, Lists, FindsFit, Placing, Releasing};
 ghost use Rattle.card.specs.Answers.{answer_by, number_by, position_of};
 
 mod refusal; // the table of refusals
 mod answers; // what calls answer, and an answer as its number
 
 pub use answers::{Chosen, Fragmentation, answer};
+use column::Column;
+use record::bytes::Entry;
 use record::checked::{RecordFault, SoundRecord};
 pub use refusal::Refusal;
 use task::{Position, Task, TaskFault};
@@ -82,9 +83,9 @@ fn bad_number(record: SoundRecord, number: u32) -> bool
 pub fn new(record: &mut [u8], rows: u32, kinds: &[u8]) -> Result<(), Refusal>
     ensures { Changes (new «record».old rows kinds.now) (answer_by (λ _. pos 0) result) «record».new }
 {
-    if record.len() != model::RECORD_SIZE {
+    let Some(record) = record.as_mut_array() else {
         return Err(Refusal::RecordLength);
-    }
+    };
     if !record::device::device_ok(rows, kinds) {
         return Err(Refusal::DeviceOrColumn);
     }
@@ -96,8 +97,10 @@ pub fn new(record: &mut [u8], rows: u32, kinds: &[u8]) -> Result<(), Refusal>
 fn fitting(record: SoundRecord, task: Task, column: u32, bottom: i32) -> Option<Position>
     ensures { FindsFit (device_of «record».entry.bytes.now) (book_of «record».entry.bytes.now) task.entry.bytes.now column bottom result }
 {
-    let bottom = u32::try_from(bottom).ok()?;
-    let at = Position { column, bottom };
+    let at = Position {
+        column: column as usize, // `as`: a usize is wider, and std has no From for it
+        bottom: u32::try_from(bottom).ok()?,
+    };
     record.fits(task, at).then_some(at)
 }
 
@@ -108,8 +111,8 @@ fn check_place<'a>(
     number: u32,
     column: u32,
     bottom: i32,
-) -> Result<(Task<'a>, Position), Refusal>
-    ensures { MatchResult result (λ p. (p.0.bytes.now ≡ task.now) × Placing «record».now task.now number column bottom p.1) (Refused «record».now (place task.now number column bottom)) }
+) -> Result<Entry<'a>, Refusal>
+    ensures { MatchResult result (Placing «record».now task.now number column bottom) (Refused «record».now (place task.now number column bottom)) }
 {
     let (record, task) = check_task(record, task)?;
     if bad_number(record, number) {
@@ -119,7 +122,7 @@ fn check_place<'a>(
         return Err(Refusal::Full);
     }
     match fitting(record, task, column, bottom) {
-        Some(at) => Ok((task, at)),
+        Some(at) => Ok(Entry { number, at, task }),
         None => Err(Refusal::Misfit),
     }
 }
@@ -134,8 +137,8 @@ pub fn place(
 ) -> Result<(), Refusal>
     ensures { Changes (on_record «record».old (place task.now number column bottom)) (answer_by (λ _. pos 0) result) «record».new }
 {
-    let (task, at) = check_place(record, task, number, column, bottom)?;
-    record::enter::enter(record, task, number, at);
+    let new = check_place(record, task, number, column, bottom)?;
+    record::enter::enter(record, new);
     Ok(())
 }
 
@@ -166,10 +169,7 @@ pub fn list(record: &[u8], task: &[u8], output: &mut [u8]) -> Result<u16, Refusa
     if output.len() < model::LIST_ROOM {
         return Err(Refusal::OutputShort);
     }
-    match listing::output::list(record, task, output) {
-        Some(count) => Ok(count as u16),
-        None => Err(Refusal::NoPosition),
-    }
+    listing::output::list(record, task, output).ok_or(Refusal::NoPosition)
 }
 
 // MODEL 11.6: the choice for a task.
@@ -180,21 +180,23 @@ pub fn choose(record: &[u8], task: &[u8]) -> Result<Chosen, Refusal>
     let Some(best) = choice::best_position(record, task) else {
         return Err(Refusal::NoPosition);
     };
+    // `as`: a position where a task fits is on the device, which has 64 columns at most and 256 half rows
     Ok(Chosen {
         column: best.position.column as u8,
         bottom: best.position.bottom as u16,
     })
 }
 
-// All refusals of the interval count.
-fn check_column(record: &[u8], column: u32) -> Result<SoundRecord, Refusal>
-    ensures { MatchResult result (λ r. (r.bytes.now ≡ «record».now) × (column < columns (device_of «record».now))) (Uncounted «record».now column) }
+// All refusals of the interval count, and the column where there is none.
+fn check_column(record: &[u8], column: u32) -> Result<Column, Refusal>
+    ensures { MatchResult result (Lists «record».now column) (Uncounted «record».now column) }
 {
     let record = check_record(record)?;
-    if record.columns() <= column as usize {
-        Err(Refusal::DeviceOrColumn)
+    let column = column as usize; // `as`: a usize is wider, and std has no From for it
+    if column < record.columns() {
+        Ok(record.column(column))
     } else {
-        Ok(record)
+        Err(Refusal::DeviceOrColumn)
     }
 }
 
@@ -202,8 +204,8 @@ fn check_column(record: &[u8], column: u32) -> Result<SoundRecord, Refusal>
 pub fn interval_count(record: &[u8], column: u32) -> Result<u8, Refusal>
     ensures { Leaves (interval_count «record».now column) (answer_by pos result) «record».now [] }
 {
-    let record = check_column(record, column)?;
-    Ok(record.column(column as usize).count as u8)
+    let listed = check_column(record, column)?;
+    Ok(listed.count as u8) // `as`: a column has 64 intervals at most
 }
 
 // MODEL 22.5: how broken up a card is.
@@ -225,9 +227,8 @@ pub fn fragmentation(record: &[u8]) -> Result<Fragmentation, Refusal>
 pub fn view(record: &[u8], column: u32) -> &[u8]
     ensures { result.now ≡ view «record».now column }
 {
-    let Ok(record) = check_column(record, column) else {
+    let Ok(listed) = check_column(record, column) else {
         return &[];
     };
-    let listed = record.column(column as usize);
     &listed.part[..model::INTERVAL_SIZE * listed.count]
 }

@@ -1,11 +1,10 @@
 -- `list`: a refusal of the task, −6, −9, or the ranges and their number. Assumes nothing.
 use native.Mathlib.Omega.{arith}
-use Rattle.std.proofs.Common.{refl, ap}
+use Rattle.std.proofs.Common.{refl}
 use Rattle.model.specs.Calls.{list, lent}
-use Rattle.listing.specs.Output.{answer_of}
 use Rattle.card.specs.Laws.Answers.{leaves_refused}
 use Rattle.card.specs.Laws.Checks.{given}
-use Rattle.card.specs.Laws.Positions.{list_short, list_answers, few_ranges}
+use Rattle.card.specs.Laws.Positions.{list_short, listed, list_answers}
 use Rattle.card.proofs.list.Goals as goal
 
 pub returns-in_err-record : goal.returns-in_err-record
@@ -17,18 +16,7 @@ returns-then-output-lt-LIST_ROOM c =
     let k = c.in_ok-record in
     list_short _ _ _ (given k.record k.task k.ensures) (λ i. omega (arith, c.type_inv.record i)) c.if-output-lt-LIST_ROOM.true
 
-pub overflow_cast-result : goal.overflow_cast-result
-overflow_cast-result c =
+pub returns : goal.returns
+returns c =
     let k = c.in_ok-record in
-    let few = few_ranges _ _ _ (given k.record k.task k.ensures) _ _ (rw (k.ensures.0, k.ensures.1) at c.list.ensures) c.if-output-lt-LIST_ROOM.false _ c.in-Some.is in
-    omega arith
-
-pub returns-in-Some : goal.returns-in-Some
-returns-in-Some c =
-    let k = c.in_ok-record in
-    list_answers _ _ _ (given k.record k.task k.ensures) _ _ (rw (k.ensures.0, k.ensures.1) at c.list.ensures) (λ i. omega (arith, c.type_inv.record i)) (ap answer_of c.in-Some.is)
-
-pub returns-in-None : goal.returns-in-None
-returns-in-None c =
-    let k = c.in_ok-record in
-    list_answers _ _ _ (given k.record k.task k.ensures) _ _ (rw (k.ensures.0, k.ensures.1) at c.list.ensures) (λ i. omega (arith, c.type_inv.record i)) (ap answer_of c.in-None.is)
+    list_answers _ _ _ (given k.record k.task k.ensures) _ _ (rw (k.ensures.0, k.ensures.1) at c.list.ensures) (λ i. omega (arith, c.type_inv.record i)) (listed _ _ c.ok_or.ensures.value)

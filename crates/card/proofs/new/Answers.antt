@@ -3,11 +3,15 @@ use Rattle.model.proofs.Laws.OnRecord.{new_wrong_length, new_bad_device, new_don
 use Rattle.card.specs.Laws.Answers.{leaves}
 use Rattle.card.proofs.new.Goals as goal
 
-pub returns-then-record-ne-RECORD_SIZE : goal.returns-then-record-ne-RECORD_SIZE
-returns-then-record-ne-RECORD_SIZE c = leaves (new_wrong_length _ _ _ c.if-record-ne-RECORD_SIZE.true)
+pub returns-in_default : goal.returns-in_default
+returns-in_default c = leaves (new_wrong_length _ _ _ (rw c.in_default.is at c.as_mut_array.ensures.cases))
 
 pub returns-then-not-device_ok : goal.returns-then-not-device_ok
-returns-then-not-device_ok c = leaves (new_bad_device _ _ _ c.if-record-ne-RECORD_SIZE.false (cc))
+returns-then-not-device_ok c =
+    let k = rw c.in-Some.is at c.as_mut_array.ensures.cases in
+    rw k.same (leaves (new_bad_device _ _ _ k.long (cc)))
 
 pub returns : goal.returns
-returns c = rw c.clear.ensures (leaves (new_done _ _ _ c.if-record-ne-RECORD_SIZE.false (cc)))
+returns c =
+    let k = rw c.in-Some.is at c.as_mut_array.ensures.cases in
+    rw c.clear.ensures (leaves (new_done _ _ _ k.long (cc)))

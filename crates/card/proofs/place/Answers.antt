@@ -5,9 +5,9 @@ use Rattle.card.specs.Laws.Answers.{leaves, leaves_refused}
 use Rattle.card.specs.Laws.Place.{place_done}
 use Rattle.card.proofs.place.Goals as goal
 
-pub returns-in_err-task : goal.returns-in_err-task
+pub returns-in_err-new : goal.returns-in_err-new
 unfolding lent
-returns-in_err-task c = leaves_refused _ c.from_residual.result _ c.from_residual.ensures.1 (rw (to_z-of_z c.ranges.bottom) at c.in_err-task.ensures)
+returns-in_err-new c = leaves_refused _ c.from_residual.result _ c.from_residual.ensures.1 (rw (to_z-of_z c.ranges.bottom) at c.in_err-new.ensures)
 
 pub returns : goal.returns
-returns c = let (e, x) = rw (to_z-of_z c.ranges.bottom) at c.in_ok-task.ensures in rw (c.enter.ensures, e) (leaves (place_done _ _ _ _ _ _ x))
+returns c = rw c.enter.ensures (leaves (place_done _ _ _ _ _ _ (rw (to_z-of_z c.ranges.bottom) at c.in_ok-new.ensures)))

@@ -18,6 +18,8 @@ use Rattle.model.proofs.Laws.WriteBack.{Bytes}
 use Rattle.model.proofs.Laws.OnRecord.{refused_call, done_call}
 use Rattle.listing.specs.Columns.{Given}
 use Rattle.task.specs.declared.Position.{Position}
+use Rattle.record.specs.declared.bytes.Entry.{Entry}
+use Rattle.record.specs.Entries.{seen}
 use Rattle.card.specs.declared.refusal.Refusal.TheVariants.{BadNumber, Full, Misfit}
 use Rattle.card.specs.Checks.{FindsFit, Refused, Placing}
 
@@ -55,19 +57,20 @@ module _ (r t : List ℕ) (n p : ℕ) (y : ℤ) (B : Bytes r) (x : Given r t) wh
       unfolding refused refusals
       place_misfit f = let e = lt-leb max_running (length (book_of r)) l in refused_call r (place t n p y) x.sound B 10 (rw (x.sized, x.formed, o, e, f))
 
-      pub placing : (at : Position) → (at.column ≡ p) × (pos at.bottom ≡ y) × (fits (device_of r) (book_of r) t at.column at.bottom ≡ true) → Placing r t n p y at
-      placing at (e, f, h) =
+      pub placing : (e : Entry) → e.number ≡ n → e.task.bytes.now ≡ t → (e.at.column ≡ p) × (pos e.at.bottom ≡ y) × (fits (device_of r) (book_of r) t e.at.column e.at.bottom ≡ true)
+          → Placing r t n p y e
+      placing e i j (f, g, h) =
           let (k, u) = or_parts (not (number_ok n)) (runs_in (book_of r) n) o in
-          record { given = x; number = not-false _ k; new = u; room = l; column_is = e; bottom_is = f; fits = h }
+          record { given = x; number = not-false _ k; new = u; room = l; number_is = i; task_is = j; column_is = f; bottom_is = g; fits = h }
 
 -- ---- where there is none
 
 -- the task is entered
-pub place_done : (r t : List ℕ) (n p : ℕ) (y : ℤ) (at : Position) → Placing r t n p y at
-    → on_record r (place t n p y) ≡ record { answer = pos 0; output = []; state = record_of (device_of r) (insert (record { number = n; column = at.column; bottom = at.bottom; task = t }) (book_of r)) }
+pub place_done : (r t : List ℕ) (n p : ℕ) (y : ℤ) (e : Entry) → Placing r t n p y e
+    → on_record r (place t n p y) ≡ record { answer = pos 0; output = []; state = record_of (device_of r) (insert (seen e) (book_of r)) }
 unfolding refused refusals written done natural
-place_done r t n p y at x =
+place_done r t n p y e x =
     let z = x.given in
     let l = lt-leb max_running (length (book_of r)) x.room in
-    let f : fits_at (device_of r) (book_of r) t p y ≡ true = fits_there (device_of r) (book_of r) t p at.bottom x.bottom_is ∙ rw x.column_is at x.fits in
-    done_call r (place t n p y) z.sound (rw (z.sized, z.formed, x.number, x.new, l, f)) ∙ rw (← x.bottom_is, x.column_is)
+    let f : fits_at (device_of r) (book_of r) t p y ≡ true = fits_there (device_of r) (book_of r) t p e.at.bottom x.bottom_is ∙ rw x.column_is at x.fits in
+    done_call r (place t n p y) z.sound (rw (z.sized, z.formed, x.number, x.new, l, f)) ∙ rw (← x.bottom_is, x.column_is, x.number_is, x.task_is)

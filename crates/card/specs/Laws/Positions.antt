@@ -1,31 +1,35 @@
 -- MODEL 10, 11 and 12: list and choose, return by return. Assumes nothing.
-use Rattle.std.specs.Prelude.{ℕ, ◌*◌, ◌≤◌, ◌<◌, ◌≡◌, refl, List, [], ℤ, Option, Some, length}
+use Rattle.std.specs.Prelude.{ℕ, ◌*◌, ◌<◌, ◌≡◌, refl, List, [], ℤ, pos, Option, Some, None, Result, length}
 use Rattle.std.proofs.Math.Path.{sym}
-use Rattle.std.proofs.Common.{◌∙◌, arith}
+use Rattle.std.proofs.Common.{◌∙◌}
+use Rattle.std.specs.Option.{ok_or}
 use Rattle.std.proofs.Math.Option.{Option as ModelOption, none, some}
 use borrow.Author.Tests.{lt-ltb}
-use Rattle.model.specs.Limits.{max_rows, max_columns, max_intervals, list_room}
+use Rattle.model.specs.Limits.{max_rows, max_columns, list_room}
 use Rattle.model.specs.Columns.{Device}
 use Rattle.model.specs.Book.{Book}
 use Rattle.model.specs.Record.{device_of, book_of}
 use Rattle.model.specs.Calls.{list, choose, lent, refused, refusals, unless, done, on_book}
 use Rattle.model.specs.OnRecord.{written, on_record}
 use Rattle.model.proofs.Laws.WriteBack.{Bytes}
-use Rattle.model.proofs.Laws.Limits.{limits_to}
-use Rattle.model.proofs.Laws.Listing.{ranges_length}
-use Rattle.model.proofs.Laws.Sound.{sound_within}
 use Rattle.model.proofs.Laws.OnRecord.{sound_call, refused_call, list_leaves, choose_leaves}
 use Rattle.listing.specs.Columns.{Given}
 use Rattle.listing.specs.Output.{answer_of, Answers}
-use Rattle.listing.specs.Laws.Output.{count_is}
 use Rattle.choice.specs.Choosing.{answer_of as best_answer, Chooses}
 use Rattle.choice.specs.declared.score.Choice.{Choice}
-use Rattle.card.specs.declared.refusal.Refusal.TheVariants.{OutputShort}
+use Rattle.card.specs.declared.refusal.Refusal.{Refusal}
+use Rattle.card.specs.declared.refusal.Refusal.TheVariants.{OutputShort, NoPosition}
 use Rattle.card.specs.Refusals.{number_of}
+use Rattle.card.specs.Answers.{answer_by}
 use Rattle.card.specs.Leaves.{Leaves}
 use Rattle.card.specs.Laws.Answers.{leaves}
 
 -- ---- list
+
+-- no range is −9
+pub listed : (o : Option ℕ) (a : Result ℕ Refusal) → a ≡ ok_or o NoPosition → answer_of o ≡ answer_by pos a
+listed (Some n) a e = rw e
+listed None a e = rw e
 
 module _ (r t o : List ℕ) (x : Given r t) where
   pub list_short : Bytes r → length o < list_room → Leaves (on_record r (list t o)) (number_of OutputShort) r o
@@ -39,13 +43,6 @@ module _ (r t o : List ℕ) (x : Given r t) where
     list_answers B e =
         let q = sound_call r (list t o) x.sound in
         record { answer_is = rw q (sym e ∙ h.answer_is); record_is = sym (list_leaves r t o B); output_is = rw q h.output_is }
-
-    -- there are at most 64 ranges in each column
-    pub few_ranges : list_room ≤ length o → (n : ℕ) → a ≡ Some n → n ≤ max_intervals * max_columns
-    few_ranges l n e =
-        let w = sound_within r x.sound in
-        let cols = (limits_to (device_of r) (book_of r) w).columns in
-        omega (arith, count_is r t x o l n p (rw e at h), ranges_length (device_of r) (book_of r) t x.sized w)
 
 -- ---- choose
 
