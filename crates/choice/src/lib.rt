@@ -45,6 +45,7 @@ impl Search<'_> {
         requires { FitsRange (device_of self.record.bytes.now) (book_of self.record.bytes.now) self.task.bytes.now column range }
         ensures { Climbed (judge (device_of self.entry.record.bytes.now) (book_of self.entry.record.bytes.now) self.entry.task.bytes.now) column range.first (suc range.last) best result }
     {
+        // A `while`: how far up the next bottom is, the score of this one says.
         let mut bottom = range.first;
         while bottom <= range.last {
             let position = Position { column, bottom };
@@ -71,12 +72,7 @@ impl Search<'_> {
     {
         let ranges = column_ranges(self.record, self.task, column, room);
         for run in ranges {
-            let range = Range {
-                first: run.first,
-                last: run.last,
-                step: self.step,
-            };
-            best = self.climb_range(column, range, best);
+            best = self.climb_range(column, run.in_steps(self.step), best);
         }
         best
     }

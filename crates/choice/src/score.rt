@@ -21,7 +21,7 @@ pub struct Choice {
 }
 
 impl Score {
-    // MODEL 11.4: is n / s less than the other's?
+    // MODEL 11.4: is n / s less than the other's? This is no `PartialOrd`, by which scores of one n / s would be one score.
     fn is_better(self, other: Score) -> bool
         ensures { result ≡ ltb (self.pieces * other.stretch) (other.pieces * self.stretch) }
     {

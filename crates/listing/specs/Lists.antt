@@ -14,6 +14,10 @@ use Rattle.listing.specs.Bottoms.{lift, bottoms}
 abbrev pub max_runs : ℕ
 max_runs = max_intervals
 
+-- the run r, in steps of s
+abbrev pub range : ℕ → Run → Range
+range s r = record { first = r.first; last = r.last; step = s }
+
 -- a run of lifted numbers
 abbrev pub IsLifted : Run → Type 0
 IsLifted r = (lift ≤ r.first) × (lift ≤ r.last)

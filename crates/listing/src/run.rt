@@ -1,8 +1,8 @@
 // MODEL 10.3: a run of bottoms, and a column's list of them: brought down, and written to at its end.
-ghost use Rattle.std.specs.Prelude.{◌≡◌, ◌≤◌, ◌<◌, [], ◌∷◌, ◌++◌, length, map, All};
+ghost use Rattle.std.specs.Prelude.{◌≡◌, ◌+◌, ◌-◌, ◌≤◌, ◌<◌, ◌↔◌, [], ◌∷◌, ◌++◌, length, map, slice_get, IsTrue, IsSomeAnd, All};
 ghost use Rattle.runs.specs.Runs.{run, push};
 ghost use Rattle.listing.specs.Bottoms.{lowered};
-ghost use Rattle.listing.specs.Lists.{max_runs, IsLifted, Pushable, Puttable, Joined};
+ghost use Rattle.listing.specs.Lists.{max_runs, range, IsLifted, Pushable, Puttable, Joined};
 
 use crate::{LIFT, MAX_RUNS};
 use runs::Range;
@@ -23,6 +23,19 @@ impl Model for Run {
     ghost view = { λ r. run r.first r.last };
 
     ghost inverse = { λ r. record { first = r.first; last = r.last } };
+}
+
+impl Run {
+    // The run in the steps of its list.
+    pub fn in_steps(self, step: u32) -> Range
+        ensures { result ≡ range step self }
+    {
+        Range {
+            first: self.first,
+            last: self.last,
+            step,
+        }
+    }
 }
 
 // The runs of a column. The kit's ArrayVec in its place writes blanks over what it drops, which made a listing a third slower.
@@ -90,21 +103,29 @@ impl Runs {
         requires { Pushable self.old r }
         ensures { self.new ≡ push r.step (run r.first r.last) self.old }
     {
-        let n = self.count;
-        if 0 < n {
-            let end = &self.runs[n - 1];
-            if end.last + r.step == r.first {
-                self.runs[n - 1] = Run {
-                    first: end.first,
-                    last: r.last,
-                };
-                return;
-            }
+        if self.goes_on(r) {
+            let n = self.count - 1;
+            let end = self.runs[n];
+            self.runs[n] = Run {
+                last: r.last,
+                ..end
+            };
+        } else {
+            self.append(Run {
+                first: r.first,
+                last: r.last,
+            });
         }
-        self.append(Run {
-            first: r.first,
-            last: r.last,
-        });
+    }
+
+    // Whether a range begins one step above the end of the last run.
+    fn goes_on(&self, r: Range) -> bool
+        requires { Pushable self.now r }
+        ensures { IsTrue result ↔ IsSomeAnd (slice_get self.now (length self.now - 1)) (λ q. q.last + r.step ≡ r.first) }
+    {
+        self.as_slice()
+            .last()
+            .is_some_and(|end| end.last + r.step == r.first)
     }
 
     // Puts a run at the end, by itself.

@@ -33,18 +33,14 @@ pub fn meet_block(column: Column, b: Block, step: u32, list: &[Run], met: &mut R
     met.clear();
     let mut i: usize = 0;
     let mut j: usize = 0;
+    // A `while`: each turn passes a run or an interval, and which of them its numbers say.
     while i < list.len() && j < column.count {
         let free = column.interval(j);
         if free.top - free.bottom < b.extent.high - b.extent.low {
             j += 1;
             continue;
         }
-        let run = &list[i];
-        let x = Range {
-            first: run.first,
-            last: run.last,
-            step,
-        };
+        let x = list[i].in_steps(step);
         let y = bottoms_in(b, free);
         put(x, y, met);
         if x.last < y.last {

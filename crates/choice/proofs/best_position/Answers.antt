@@ -1,5 +1,5 @@
 -- Answers of `choice::best_position`.
-use Rattle.choice.specs.Laws.Homes.{given}
+use Rattle.listing.specs.Laws.Column.{given_of}
 use Rattle.choice.specs.Laws.Columns.{best_none, best_next, chooses}
 use Rattle.choice.proofs.best_position.Goals as goal
 
@@ -12,4 +12,4 @@ loop-column-preserved c =
 
 pub returns : goal.returns
 returns c =
-    chooses _ _ (given c.args.record c.args.task) _ _ (rw c.columns-column-end.ensures.count at c.loop-column-test.false) c.loop-column.invariant
+    chooses _ _ (given_of c.args.record c.args.task) _ _ (rw c.columns-column-end.ensures.count at c.loop-column-test.false) c.loop-column.invariant

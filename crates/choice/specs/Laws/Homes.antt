@@ -26,15 +26,9 @@ use Rattle.column.specs.Laws.Lent.{lent, listed_lent}
 use Rattle.column.specs.Laws.Held.{held_holder}
 use Rattle.task.specs.declared.Extent.{Extent}
 use Rattle.task.specs.Blocks.{SameExtent}
-use Rattle.record.specs.declared.checked.SoundRecord.{SoundRecord}
-use Rattle.task.specs.declared.Task.{Task}
 use Rattle.listing.specs.Columns.{Given}
 use Rattle.choice.specs.Choosing.{place_at, OnDevice, Stands, home_of, Housed, shared}
 use Rattle.choice.specs.declared.tally.Place.{Place}
-
--- a sound record and a task, from what their types say
-pub given : (r : SoundRecord) (t : Task) → Given r.bytes.now t.bytes.now
-given r t = record { sound = r.sound; sized = t.sized; formed = t.well_formed }
 
 -- ---- a block that stands free
 

@@ -20,7 +20,7 @@ use Rattle.task.specs.declared.Extent.{Extent}
 use Rattle.task.specs.Blocks.{SameExtent}
 use Rattle.listing.specs.Columns.{Given}
 use Rattle.column.specs.declared.Interval.{Interval as Read}
-use Rattle.choice.specs.Choosing.{moved, place_at, Stands, home_of, shared, span_of, Alone, Addable, Added, Rated, Scoring, Scored}
+use Rattle.choice.specs.Choosing.{free_in, moved, place_at, Stands, home_of, shared, span_of, Alone, Addable, Added, Rated, Scoring, Scored}
 use Rattle.choice.specs.Laws.Homes.{block_of, home_at, joined_shared, shared_is, housed, on_device}
 use Rattle.choice.specs.declared.tally.Place.{Place}
 use Rattle.choice.specs.declared.tally.Rating.{Rating}
@@ -72,60 +72,68 @@ module _ (B : Placed) (L : ℕ → List Interval) where
 -- one block more of a task that fits
 module _ (r t : List ℕ) (a : Given r t) (p y k : ℕ) (f : fits (device_of r) (book_of r) t p y ≡ true) (l : k < blocks t) (x : Extent) (s : SameExtent x (block t k))
     (b : Place) (e : b ≡ moved x p y) where
-  free : Free (placed t p y) (columns (device_of r)) (intervals (device_of r) (book_of r))
+  free : Free (placed t p y) (columns (device_of r)) (free_in r)
   free = stands (device_of r) (book_of r) t a.formed p y f
 
-  is_block : b ≡ block_of (placed t p y) (intervals (device_of r) (book_of r)) k
+  is_block : b ≡ block_of (placed t p y) (free_in r) k
   unfolding placed
   is_block = e ∙ rw (s.column, s.low, s.high)
 
-  pub block_stands : Stands (intervals (device_of r) (book_of r)) b
+  pub block_stands : Stands (free_in r) b
   unfolding placed
   block_stands =
       let on = (on_device r t a p y k f l x s).column in
       rw is_block (record { on_device = omega (arith, s.column); full = free.full k l; held = free.held k l })
 
-  pub block_addable : (o : Rating) → Rated (placed t p y) (intervals (device_of r) (book_of r)) k o → Addable (intervals (device_of r) (book_of r)) o b
+  pub block_addable : (o : Rating) → Rated (placed t p y) (free_in r) k o → Addable (free_in r) o b
   block_addable o g =
       let few = (sized_to t a.sized).few in
       record { stands = block_stands; few = omega (arith, g.pieces_few); short = omega (arith, g.stretch_small) }
 
-  block_rated : (o : Rating) → Rated (placed t p y) (intervals (device_of r) (book_of r)) k o → (q : Bool) → joined (placed t p y) (intervals (device_of r) (book_of r)) k ≡ q
-      → (z : Rating) → Added o q b.rows (home_of (intervals (device_of r) (book_of r)) b).rows z → Rated (placed t p y) (intervals (device_of r) (book_of r)) (k + 1) z
+  block_rated : (o : Rating) → Rated (placed t p y) (free_in r) k o → (q : Bool) → joined (placed t p y) (free_in r) k ≡ q
+      → (z : Rating) → Added o q b.rows (home_of (free_in r) b).rows z → Rated (placed t p y) (free_in r) (k + 1) z
   unfolding placed home
   block_rated o g q j z h =
       let small = (housed r a.sound b block_stands _ refl).roof_small in
       rated_next _ _ _ free k o l g (rw is_block at small) q j z (rw is_block at h)
 
   -- its home is the last one then
-  pub block_last : (h : Place) → h ≡ home_of (intervals (device_of r) (book_of r)) b
-      → h ≡ place_at ((placed t p y).column (k + 1 - 1)) (home (placed t p y) (intervals (device_of r) (book_of r)) (k + 1 - 1))
+  block_last : (h : Place) → h ≡ home_of (free_in r) b
+      → h ≡ place_at ((placed t p y).column (k + 1 - 1)) (home (placed t p y) (free_in r) (k + 1 - 1))
   unfolding placed home
   block_last h q = let back : k + 1 - 1 ≡ k = omega arith in rw back (q ∙ rw is_block)
 
   -- block 0 is the first in its home
-  pub first_rated : k ≡ 0 → (z : Rating) → Alone false b.rows (home_of (intervals (device_of r) (book_of r)) b).rows z
-      → Rated (placed t p y) (intervals (device_of r) (book_of r)) (k + 1) z
+  first_rated : k ≡ 0 → (z : Rating) → Alone false b.rows (home_of (free_in r) b).rows z
+      → Rated (placed t p y) (free_in r) (k + 1) z
   unfolding joined none
   first_rated m z h =
       let small : z.room < words = omega (arith, h.room, (housed r a.sound b block_stands _ refl).roof_small) in
-      block_rated (none z.room) (rw m (rated_none (placed t p y) (intervals (device_of r) (book_of r)) z.room small)) false (rw m) z (record {
+      block_rated (none z.room) (rw m (rated_none (placed t p y) (free_in r) z.room small)) false (rw m) z (record {
         pieces = omega (arith, h.pieces);
         stretch = omega (arith, h.stretch);
         room = omega (arith, h.room);
       })
 
-  -- a later block may stand in that of the block before it
-  module _ (m : 1 ≤ k) (o : Tally) (g : Scoring (placed t p y) (intervals (device_of r) (book_of r)) k o) where
-    pub next_shared : shared o.last b ≡ true → o.last ≡ home_of (intervals (device_of r) (book_of r)) b
-    unfolding placed home
-    next_shared = rw (g.last, is_block) (shared_is (placed t p y) (intervals (device_of r) (book_of r)) _ free k m l)
+  pub scoring_first : k ≡ 0 → (z : Tally) → Alone false b.rows (home_of (free_in r) b).rows z.rating
+      → z.last ≡ home_of (free_in r) b → Scoring (placed t p y) (free_in r) (k + 1) z
+  scoring_first m z h q = record { rated = first_rated m z.rating h; last = block_last z.last q }
 
-    pub next_rated : (z : Rating) → Added o.rating (shared o.last b) b.rows (home_of (intervals (device_of r) (book_of r)) b).rows z
-        → Rated (placed t p y) (intervals (device_of r) (book_of r)) (k + 1) z
+  -- a later block may stand in that of the block before it
+  module _ (m : 1 ≤ k) (o : Tally) (g : Scoring (placed t p y) (free_in r) k o) where
+    pub next_shared : shared o.last b ≡ true → o.last ≡ home_of (free_in r) b
+    unfolding placed home
+    next_shared = rw (g.last, is_block) (shared_is (placed t p y) (free_in r) _ free k m l)
+
+    next_rated : (z : Rating) → Added o.rating (shared o.last b) b.rows (home_of (free_in r) b).rows z
+        → Rated (placed t p y) (free_in r) (k + 1) z
     unfolding placed
     next_rated =
-        block_rated o.rating g.rated (shared o.last b) (rw (g.last, is_block) (joined_shared (placed t p y) (intervals (device_of r) (book_of r)) _ free k m l))
+        block_rated o.rating g.rated (shared o.last b) (rw (g.last, is_block) (joined_shared (placed t p y) (free_in r) _ free k m l))
+
+    pub scoring_next : (z : Tally) → Added o.rating (shared o.last b) b.rows (home_of (free_in r) b).rows z.rating
+        → z.last ≡ home_of (free_in r) b → Scoring (placed t p y) (free_in r) (k + 1) z
+    scoring_next z h q = record { rated = next_rated z.rating h; last = block_last z.last q }
 
 -- all blocks are scored
 pub scored : (d : Device) (b : Book) (t : List ℕ) (p y k : ℕ) (x : Rating) → well_formed t ≡ true → blocks t ≤ max_blocks → fits d b t p y ≡ true

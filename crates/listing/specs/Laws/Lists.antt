@@ -1,5 +1,8 @@
 -- The laws of lists of runs: the last of them, the ends of each, and how many there are. Assumes nothing.
-use Rattle.std.specs.Prelude.{ℕ, zero, suc, ◌+◌, ◌-◌, ◌*◌, ◌≤◌, ◌<◌, ◌≡◌, ◌⊎◌, List, [], ◌∷◌, ◌++◌, length, get_or, set, All}
+use Rattle.std.specs.Prelude.{ℕ, zero, suc, ◌+◌, ◌-◌, ◌*◌, ◌≤◌, ◌<◌, ◌≡◌, refl, ◌⊎◌, ◌↔◌, Bool, true, false, IsSomeAnd, slice_get, List, [], ◌∷◌, ◌++◌, length, get_or, set, All}
+use Rattle.std.proofs.lemmas.List.{get_or_default}
+use Rattle.std.proofs.lemmas.Option.{slice_get-get_or, slice_get_past}
+use Rattle.model.proofs.Laws.Bounded.{clash}
 use Rattle.std.proofs.Common.{sym, ap, ◌∙◌, inl, inr, arith, take, length-take, get_or-take, mul-le-mul_left}
 use Rattle.std.proofs.Math.Seq.{take-set-lt}
 use borrow.Author.Tests.{eq-eqb, ne_eqb}
@@ -32,24 +35,34 @@ module _ (s : ℕ) (r : Run) where
   push_more (x ∷ y ∷ L) zero q l e h = absurd (omega arith)
   push_more (x ∷ y ∷ L) (suc i) q l e h = ap (λ (K : List Run). x ∷ K) (push_more (y ∷ L) i q (omega arith) e h)
 
+  -- r begins one step above the end of the last run
+  abbrev GoesOn : List Run → Type 0
+  GoesOn L = IsSomeAnd (slice_get L (length L - 1)) (λ q. q.last + s ≡ r.first)
+
   -- the list is the first n runs of an array, and q the last of them
-  module _ (A : List Run) (n : ℕ) (l : n ≤ length A) where
-    module _ (q : Run) (p : 0 < n) (e : q ≡ get_or A (n - 1) q) where
-      last_is : get_or (take n A) (n - 1) q ≡ q
-      last_is = get_or-take n A (n - 1) q (omega arith) ∙ sym e
+  pub longer : (A : List Run) (n : ℕ) → n ≤ length A → GoesOn (take n A) → (q d : Run) → q ≡ get_or A (n - 1) d
+      → take n (set A (n - 1) (run q.first r.last)) ≡ push s r (take n A)
+  longer A n l g q d e =
+      let i : length (take n A) - 1 ≡ n - 1 = omega (arith, length-take n A) in
+      go (rw i at g) (lt_or_ge (n - 1) (length (take n A)))
+    where
+      go : IsSomeAnd (slice_get (take n A) (n - 1)) (λ q. q.last + s ≡ r.first) → (n - 1 < length (take n A)) ⊎ (length (take n A) ≤ n - 1)
+          → take n (set A (n - 1) (run q.first r.last)) ≡ push s r (take n A)
+      go g (inl b) =
+          let k = length-take n A in
+          let w : get_or (take n A) (n - 1) q ≡ q = get_or-take n A (n - 1) q (omega arith) ∙ get_or_default A (n - 1) q d (omega arith) ∙ sym e in
+          take-set-lt n A (n - 1) (run q.first r.last) (omega arith)
+          ∙ push_longer (take n A) (n - 1) q (omega arith) w (rw (slice_get-get_or (take n A) (n - 1) q b, w) at g)
+      go g (inr b) = absurd (rw (slice_get_past (take n A) (n - 1) b) at g)
 
-      whole : suc (n - 1) ≡ length (take n A)
-      whole = omega (arith, length-take n A)
-
-      pub longer : q.last + s ≡ r.first → take n (set A (n - 1) (run q.first r.last)) ≡ push s r (take n A)
-      longer h = take-set-lt n A (n - 1) (run q.first r.last) (omega arith) ∙ push_longer (take n A) (n - 1) q whole last_is h
-
-      pub apart : (q.last + s ≡ r.first → ⊥) → take n A ++ r ∷ [] ≡ push s r (take n A)
-      apart h = push_more (take n A) (n - 1) q whole last_is h
-
-    pub first : n ≤ 0 → take n A ++ r ∷ [] ≡ push s r (take n A)
-    unfolding push
-    first h = let z : n ≡ 0 = omega arith in rw z
+  -- it does not, as the test b says
+  pub apart : (L : List Run) (b : Bool) → (b ≡ true) ↔ GoesOn L → b ≡ false → L ++ r ∷ [] ≡ push s r L
+  unfolding push
+  apart [] b o e = refl
+  apart (x ∷ L) b o e =
+      let n : length (x ∷ L) - 1 ≡ length L = omega arith in
+      let u = slice_get-get_or (x ∷ L) (length L) x (omega arith) in
+      push_more (x ∷ L) (length L) (get_or (x ∷ L) (length L) x) refl (get_or_default (x ∷ L) (length L) _ x (omega arith)) (λ h. clash (o.1 (rw (n, u) h)) e)
 
 -- ---- the runs of a list, one after the other
 

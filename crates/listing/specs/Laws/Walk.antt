@@ -18,7 +18,7 @@ use Rattle.model.proofs.Laws.Columns.{height_two, height_ten}
 use Rattle.column.specs.Part.{interval_at, listed_from, listed_in, ReadAt}
 use Rattle.column.specs.declared.Interval.{Interval as Read}
 use Rattle.listing.specs.Bottoms.{lift, bottoms_in, range_in, bottoms}
-use Rattle.listing.specs.Lists.{Pushable, Puttable, Joined, Meetable, Met}
+use Rattle.listing.specs.Lists.{range, Pushable, Puttable, Joined, Meetable, Met}
 use Rattle.listing.specs.Laws.Bottoms.{bottoms_none, bottoms_short, bottoms_tall, bottoms_from, bottoms_spaced}
 use Rattle.listing.specs.Laws.Lists.{steps_at, ends_named, ends_all, few_runs}
 
@@ -50,9 +50,6 @@ grid_at h zero (i ∷ L) d (x, z, g) l = (x, z)
 grid_at h (suc j) (i ∷ L) d (x, z, g) l = grid_at h j L d g (omega arith)
 
 -- ---- the walk
-
-abbrev pub range : ℕ → Run → Range
-range s x = record { first = x.first; last = x.last; step = s }
 
 -- the runs A below i are passed, and the intervals I below j; O is written
 abbrev pub Walking : List Interval → model.Block → ℕ → List Run → ℕ → ℕ → List Run → Type 0
@@ -102,7 +99,7 @@ module _ (part : List ℕ) (count : ℕ) (k : model.Block) (A : List Run) (s : �
     walking_short i O t w l p = rw (drop_y, bottoms_short k.low k.high y (drop (j + 1) I) t) at (w l p)
 
     -- it is not, and x is run i
-    module _ (i : ℕ) (x : Run) (c : i < length A) (is_x : get_or A i x ≡ x) (t : k.high - k.low ≤ read.top - read.bottom) where
+    module _ (i : ℕ) (x : Run) (in_A : i < length A) (is_x : get_or A i x ≡ x) (t : k.high - k.low ≤ read.top - read.bottom) where
       -- the block's bottoms in the interval
       abbrev z : Run
       z = bottoms_in k.low k.high y
@@ -114,7 +111,7 @@ module _ (part : List ℕ) (count : ℕ) (k : model.Block) (A : List Run) (s : �
       Y = bottoms k.low k.high (drop (j + 1) I)
 
       left : drop i A ≡ x ∷ X
-      left = rw (add-one, drop-cons A i x c, is_x)
+      left = rw (add-one, drop-cons A i x in_A, is_x)
 
       right : bottoms k.low k.high (drop j I) ≡ z ∷ Y
       right = ap (bottoms k.low k.high) drop_y ∙ bottoms_tall k.low k.high y (drop (j + 1) I) t
@@ -132,8 +129,8 @@ module _ (part : List ℕ) (count : ℕ) (k : model.Block) (A : List Run) (s : �
       proper_left : Proper a
       proper_left = record {
         step = m.step;
-        last = rw is_x at (steps_at s 0 A m.canon i x c);
-        bound = omega (arith, m.bound x.last (rw is_x at (ends_named s 0 A m.canon i x c)).1);
+        last = rw is_x at (steps_at s 0 A m.canon i x in_A);
+        bound = omega (arith, m.bound x.last (rw is_x at (ends_named s 0 A m.canon i x in_A)).1);
       }
 
       proper_right : Proper b
@@ -170,23 +167,23 @@ module _ (part : List ℕ) (count : ℕ) (k : model.Block) (A : List Run) (s : �
             ends = λ n d l. (ends_all (λ y. y < words) e.step 0 O v.written.canon (λ y n. omega (arith, m.bound y (written_of s h A B e.step v.n y O v.written n))) n d l).1;
           }
 
-      -- d is the code's range of the interval
-      module _ (d : Range) (is : d ≡ b) where
-        pub puttable : (O : List Run) → Walking I k s A i j O → Puttable O a d
-        puttable O w = rw is (record { left = proper_left; right = proper_right; pushable = room_for O w })
+      -- c and d are the code's ranges of the two
+      module _ (c d : Range) (is_a : c ≡ a) (is_b : d ≡ b) where
+        pub puttable : (O : List Run) → Walking I k s A i j O → Puttable O c d
+        puttable O w = rw (is_a, is_b) (record { left = proper_left; right = proper_right; pushable = room_for O w })
 
         -- the run that ends first is passed
-        pub walking_left : (O O' : List Run) → Walking I k s A i j O → Joined a d O O' → x.last < d.last → Walking I k s A (i + 1) j O'
-        walking_left O O' w c e l p =
+        pub walking_left : (O O' : List Run) → Walking I k s A i j O → Joined c d O O' → c.last < d.last → Walking I k s A (i + 1) j O'
+        walking_left O O' w v e l p =
             rw right
             (pass_left s h l (is_in_both s h A B) m.step.0 (omega (arith, height_two k.kind)) (spaced l p) x z X Y O (current O w l p) O'
-            (put_of O O' l p (rw is at c)) (omega (arith, rw is at e)))
+            (put_of O O' l p (rw (is_a, is_b) at v)) (omega (arith, rw (is_a, is_b) at e)))
 
-        pub walking_right : (O O' : List Run) → Walking I k s A i j O → Joined a d O O' → d.last ≤ x.last → Walking I k s A i (j + 1) O'
-        walking_right O O' w c e l p =
+        pub walking_right : (O O' : List Run) → Walking I k s A i j O → Joined c d O O' → d.last ≤ c.last → Walking I k s A i (j + 1) O'
+        walking_right O O' w v e l p =
             rw left
             (pass_right s h l (is_in_both s h A B) m.step.0 (omega (arith, height_two k.kind)) (spaced l p) x z X Y O (current O w l p) O'
-            (put_of O O' l p (rw is at c)) (rw is at e))
+            (put_of O O' l p (rw (is_a, is_b) at v)) (rw (is_a, is_b) at e))
 
   -- one of the two is at its end
   pub walking_done : (i j : ℕ) (O : List Run) → (length A ≤ i) ⊎ (count ≤ j) → Walking I k s A i j O → Met I k s A O

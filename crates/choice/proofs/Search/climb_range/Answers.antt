@@ -1,27 +1,22 @@
 -- Answers of `choice::Search::climb_range`.
 use native.Mathlib.Omega.{arith}
-use Rattle.model.proofs.Laws.Tasks.{sized_to}
-use Rattle.choice.specs.Laws.Homes.{given}
 use Rattle.choice.specs.Laws.Climbs.{range_step, rise_pos, bottom_small, climbing_next, climbing_done}
 use Rattle.choice.proofs.Search.climb_range.Goals as goal
 
 pub rise-bottom-requires : goal.rise-bottom-requires
-rise-bottom-requires c =
-    (c.score_at-rating.ensures.room_small, range_step (given c.args.self.record c.args.self.task) c.requires)
+rise-bottom-requires c = (c.score_at-rating.ensures.room_small, range_step c.args.self _ _ c.requires)
 
 pub overflow_add-bottom : goal.overflow_add-bottom
 overflow_add-bottom c =
-    let y = bottom_small _ _ (given c.args.self.record c.args.self.task) _ _ (c.requires.all_fit _ (c.loop-bottom.invariant.steps, c.loop-bottom-test.true)) in
-    omega (arith, c.rise-bottom.ensures.small, c.score_at-rating.ensures.room_small, (range_step (given c.args.self.record c.args.self.task) c.requires).1)
+    let y = bottom_small c.args.self _ _ (c.requires.all_fit _ (c.loop-bottom.invariant.steps, c.loop-bottom-test.true)) in
+    omega (arith, c.rise-bottom.ensures.small, c.score_at-rating.ensures.room_small, (range_step c.args.self _ _ c.requires).1)
 
 pub loop-bottom-smaller : goal.loop-bottom-smaller
-loop-bottom-smaller c =
-    omega (arith, c.loop-bottom-test.true, rise_pos c.rise-bottom.ensures (range_step (given c.args.self.record c.args.self.task) c.requires).0)
+loop-bottom-smaller c = omega (arith, c.loop-bottom-test.true, rise_pos c.rise-bottom.ensures (range_step c.args.self _ _ c.requires).0)
 
 pub loop-bottom-preserved : goal.loop-bottom-preserved
 loop-bottom-preserved c =
-    climbing_next _ _ _ c.args.self.task.well_formed (sized_to _ c.args.self.task.sized).some_blocks _ _ c.requires _ _ _ _ _ _ c.loop-bottom-test.true c.score_at-rating.ensures c.rise-bottom.ensures c.or_best-best.ensures c.loop-bottom.invariant
+    climbing_next c.args.self _ _ c.requires _ _ _ _ _ _ c.loop-bottom-test.true c.score_at-rating.ensures c.rise-bottom.ensures c.or_best-best.ensures c.loop-bottom.invariant
 
 pub returns : goal.returns
-returns c =
-    climbing_done _ _ _ c.args.self.task.well_formed (sized_to _ c.args.self.task.sized).some_blocks _ _ c.requires _ _ _ c.loop-bottom-test.false c.loop-bottom.invariant
+returns c = climbing_done c.args.self _ _ c.requires _ _ _ c.loop-bottom-test.false c.loop-bottom.invariant

@@ -1,51 +1,47 @@
 -- Answers of `choice::tally::score_at`.
 use mathlib.Core.Path.{refl}
 use Rattle.model.proofs.Laws.Tasks.{sized_to}
-use Rattle.choice.specs.Laws.Homes.{given, on_device}
-use Rattle.choice.specs.Laws.Scores.{block_stands, block_addable, block_last, first_rated, next_shared, next_rated, scored}
+use Rattle.listing.specs.Laws.Column.{given_of, some_blocks}
+use Rattle.choice.specs.Laws.Homes.{on_device}
+use Rattle.choice.specs.Laws.Scores.{block_stands, block_addable, scoring_first, next_shared, scoring_next, scored}
 use Rattle.choice.proofs.tally.score_at.Goals as goal
 
 pub extent-requires : goal.extent-requires
-extent-requires c = (sized_to _ c.args.task.sized).some_blocks
+extent-requires c = some_blocks _ _ (given_of c.args.record c.args.task)
 
 pub new-requires : goal.new-requires
-new-requires c = on_device _ _ (given c.args.record c.args.task) _ _ _ c.requires (sized_to _ c.args.task.sized).some_blocks _ c.extent.ensures
+new-requires c = let a = given_of c.args.record c.args.task in on_device _ _ a _ _ _ c.requires (some_blocks _ _ a) _ c.extent.ensures
 
 pub new-tally-requires : goal.new-tally-requires
-new-tally-requires c =
-    block_stands _ _ (given c.args.record c.args.task) _ _ _ c.requires (sized_to _ c.args.task.sized).some_blocks _ c.extent.ensures _ c.new.ensures
+new-tally-requires c = let a = given_of c.args.record c.args.task in block_stands _ _ a _ _ _ c.requires (some_blocks _ _ a) _ c.extent.ensures _ c.new.ensures
 
 pub loop-k-init : goal.loop-k-init
 loop-k-init c =
+    let a = given_of c.args.record c.args.task in
     let first = c.new-tally.ensures in
-    let some = (sized_to _ c.args.task.sized).some_blocks in
-    record {
-      rated = first_rated _ _ (given c.args.record c.args.task) _ _ _ c.requires some _ c.extent.ensures _ c.new.ensures refl _ first.rating;
-      last = block_last _ _ (given c.args.record c.args.task) _ _ _ c.requires some _ c.extent.ensures _ c.new.ensures _ first.last;
-    }
+    scoring_first _ _ a _ _ _ c.requires (some_blocks _ _ a) _ c.extent.ensures _ c.new.ensures refl _ first.rating first.last
 
 pub new-requires-in-loop-k : goal.new-requires-in-loop-k
 new-requires-in-loop-k c =
     let l = rw c.count-k-end.ensures.count at c.loop-k-test.true in
-    on_device _ _ (given c.args.record c.args.task) _ _ _ c.requires l _ c.extent-in-loop-k.ensures
+    on_device _ _ (given_of c.args.record c.args.task) _ _ _ c.requires l _ c.extent-in-loop-k.ensures
 
 pub add_block-requires : goal.add_block-requires
 add_block-requires c =
+    let a = given_of c.args.record c.args.task in
     let l = rw c.count-k-end.ensures.count at c.loop-k-test.true in
     let scoring = c.loop-k.invariant in
     record {
-      addable = block_addable _ _ (given c.args.record c.args.task) _ _ _ c.requires l _ c.extent-in-loop-k.ensures _ c.new-in-loop-k.ensures _ scoring.rated;
-      home_is = next_shared _ _ (given c.args.record c.args.task) _ _ _ c.requires l _ c.extent-in-loop-k.ensures _ c.new-in-loop-k.ensures c.loop-k.auto.k _ scoring;
+      addable = block_addable _ _ a _ _ _ c.requires l _ c.extent-in-loop-k.ensures _ c.new-in-loop-k.ensures _ scoring.rated;
+      home_is = next_shared _ _ a _ _ _ c.requires l _ c.extent-in-loop-k.ensures _ c.new-in-loop-k.ensures c.loop-k.auto.k _ scoring;
     }
 
 pub loop-k-preserved : goal.loop-k-preserved
 loop-k-preserved c =
     let l = rw c.count-k-end.ensures.count at c.loop-k-test.true in
     let added = c.add_block.ensures in
-    record {
-      rated = next_rated _ _ (given c.args.record c.args.task) _ _ _ c.requires l _ c.extent-in-loop-k.ensures _ c.new-in-loop-k.ensures c.loop-k.auto.k _ c.loop-k.invariant _ added.rating;
-      last = block_last _ _ (given c.args.record c.args.task) _ _ _ c.requires l _ c.extent-in-loop-k.ensures _ c.new-in-loop-k.ensures _ added.last;
-    }
+    scoring_next _ _ (given_of c.args.record c.args.task) _ _ _ c.requires l _ c.extent-in-loop-k.ensures _ c.new-in-loop-k.ensures
+    c.loop-k.auto.k _ c.loop-k.invariant _ added.rating added.last
 
 pub returns : goal.returns
 returns c =
