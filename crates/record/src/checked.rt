@@ -43,12 +43,14 @@ impl<'a> SoundRecord<'a> {
     }
 
     // MODEL 3.2: how many rows and columns the device has.
+    #[tactic(auto, using(model::proofs::Laws::Sound::sound_length), unfolding(model::specs::Record::device_of))]
     pub fn rows(self) -> u32
         ensures { result ≡ (device_of self.entry.bytes.now).rows }
     {
         get16(self.bytes, ROWS_AT)
     }
 
+    #[tactic(auto, using(model::proofs::Laws::Sound::sound_length, model::proofs::Laws::Sound::columns_said, crate::specs::Laws::Fits::few_columns))]
     pub fn columns(self) -> usize
         ensures count { result ≡ columns (device_of self.entry.bytes.now) }
         ensures few { result ≤ max_columns }
@@ -57,6 +59,7 @@ impl<'a> SoundRecord<'a> {
     }
 
     // MODEL 3.3: the kind of column c.
+    #[tactic(auto, using(model::proofs::Laws::Sound::sound_length, crate::specs::Laws::Checked::columns_few, crate::specs::Laws::Checked::kind_byte, crate::specs::Laws::Checked::kind_small, crate::specs::Laws::Checked::known_byte, model::proofs::Laws::Kinds::kind_known))]
     pub fn kind(self, c: usize) -> Kind
         requires { c < columns (device_of self.bytes.now) }
         ensures { number_of result ≡ kind (device_of self.entry.bytes.now) c }
@@ -65,6 +68,7 @@ impl<'a> SoundRecord<'a> {
     }
 
     // MODEL 8.3: the part and the count of column c.
+    #[tactic(auto, using(model::proofs::Laws::Sound::sound_length, crate::specs::Laws::Checked::column_lent))]
     pub fn column(self, c: usize) -> Column<'a>
         requires { c < max_columns }
         ensures part { result.part.now ≡ lent self.entry.bytes.now c }
