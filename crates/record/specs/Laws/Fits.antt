@@ -11,6 +11,7 @@ use Rattle.std.proofs.lemmas.Bool.{false≢true}
 use Rattle.runs.specs.Intervals.{Interval, Holds}
 use Rattle.model.specs.Limits.{max_rows, max_columns, reach, columns_at}
 use Rattle.model.specs.Columns.{columns, kind, height}
+use Rattle.model.specs.Kinds.{number_of}
 use Rattle.model.specs.Tasks.{Block, blocks, block, sized, well_formed}
 use Rattle.model.specs.Book.{intervals, block_fits, fits}
 use Rattle.model.specs.Record.{device_of, book_of}
@@ -25,13 +26,13 @@ use Rattle.model.proofs.Laws.Clauses.{clauses_to}
 use Rattle.model.proofs.Laws.Sound.{columns_said, listed_said, sound_length, sound_within}
 use Rattle.model.specs.Blocks.{Solid}
 use Rattle.task.specs.declared.Block.{Block as Seen}
-use Rattle.task.specs.Blocks.{seen, Same}
+use Rattle.task.specs.Blocks.{seen, rows_of, Same}
 use Rattle.task.specs.Laws.Blocks.{same_seen}
 use Rattle.column.specs.Part.{listed_in, held_in}
 use Rattle.column.specs.Laws.Lent.{lent, listed_lent}
 use Rattle.column.specs.Laws.Held.{held_within, holder_holds, held_nowhere}
 use Rattle.column.specs.declared.Interval.{Interval as Read}
-use Rattle.record.specs.Fits.{Listed}
+use Rattle.record.specs.Fits.{Listed, SaysHeld}
 
 -- ---- the search of a column's part
 
@@ -73,6 +74,14 @@ module _ (r : List ℕ) (k : Block) (p y : ℕ) (ok : Bool) where
 -- block i of a well-formed task, as it was read
 pub solid_seen : (t : List ℕ) (i : ℕ) (n : Seen) → well_formed t ≡ true → i < blocks t → Same n (block t i) → Solid (seen n)
 solid_seen t i n w l s = rw (same_seen n (block t i) s) (solid_block t w i l)
+
+-- THEOREM: where it is on the grid of a column of its kind, it fits just where one free interval holds its rows
+pub held_seen : (r t : List ℕ) (k p y : ℕ) (n : Seen) (i : Read) (ok : Bool) → well_formed t ≡ true → k < blocks t → Same n (block t k)
+    → p + n.extent.column < columns (device_of r) → kind (device_of r) (p + n.extent.column) ≡ number_of n.kind
+    → reach ≤ y + n.extent.low → (y + n.extent.low - reach) % height (number_of n.kind) ≡ 0 → i ≡ rows_of n.extent y
+    → SaysHeld r (p + n.extent.column) i ok → ok ≡ block_fits (device_of r) (book_of r) (block t k) p y
+held_seen r t k p y n i ok w l s q e a g is h =
+    rw (← same_seen n (block t k) s) (held_block r (seen n) p y ok (solid_seen t k n w l s).full q e a g (rw is at h.held))
 
 -- what holds of each number of a range
 pub range_all : (p : ℕ → Bool) (n : ℕ) → list_all p (range_with_len 0 n) ≡ all_below n p
