@@ -1,6 +1,6 @@
 -- MODEL 8.4: what the contracts of `entries` say. An entry is read, found by number, moved, put in and taken out. Assumes nothing.
 use Rattle.std.specs.Prelude.{ℕ, suc, ◌+◌, ◌-◌, ◌*◌, ◌≤◌, ◌<◌, ◌≡◌, true, eqb, Option, Some, None, List, ◌++◌, length, get_or, take, drop, position}
-use Rattle.model.specs.Limits.{max_running, max_blocks, block_size, record_size, running_at, blocks_at}
+use Rattle.model.specs.Limits.{max_running, max_blocks, block_size, words, record_size, running_at, blocks_at}
 use Rattle.model.specs.Columns.{Device}
 use Rattle.model.specs.Tasks.{word, sized, well_formed}
 use Rattle.model.specs.Book.{Running, Book}
@@ -55,6 +55,14 @@ found n b = position (λ (e : Running). eqb e.number n) b
 -- however r is read, s is read so too, but that its entries are moved by g
 pub record Moved (r s : List ℕ) (g : (ℕ → List ℕ) → ℕ → List ℕ) : Type 0 where
   pub moved : {h : List ℕ} {kinds counts : ℕ → ℕ} {columns entries : ℕ → List ℕ} → Reads r h kinds counts columns entries → Reads s h kinds counts columns (g entries)
+
+-- an entry of number n, at column p and bottom y, can be put in at place k of r
+pub record Enterable (r : List ℕ) (k n p y : ℕ) : Type 0 where
+  pub place : k ≤ get_or r running_at 0
+  pub room : get_or r running_at 0 < max_running
+  pub number : n < words
+  pub column : p < 256
+  pub bottom : y < words
 
 -- however r is read, s has the entry e too, at place k
 pub record Entered (r s : List ℕ) (k : ℕ) (e : Running) : Type 0 where

@@ -4,7 +4,7 @@ ghost use Rattle.model.specs.Limits.{max_running, words, record_size, running_at
 ghost use Rattle.model.specs.Tasks.{word};
 ghost use Rattle.model.specs.Record.{padded, entry_bytes, entry_at, book_of};
 ghost use Rattle.model.specs.InPlace.{place};
-ghost use Rattle.record.specs.Entries.{found, seen, Entered, Removed};
+ghost use Rattle.record.specs.Entries.{found, seen, Enterable, Entered, Removed};
 
 use crate::bytes::{Entry, EntryBytes, entry_at, running};
 use crate::checked::SoundRecord;
@@ -16,6 +16,7 @@ use words::put16;
 
 impl<'a> SoundRecord<'a> {
     // The bytes, which are as many as a record has.
+    #[tactic(auto, using(model::proofs::Laws::Sound::sound_length))]
     fn array(self) -> &'a [u8; RECORD_SIZE]
         ensures { result.now ≡ self.entry.bytes.now }
     {
@@ -24,6 +25,7 @@ impl<'a> SoundRecord<'a> {
     }
 
     // How many tasks run.
+    #[tactic(auto, using(model::proofs::Laws::Sound::running_said, crate::specs::Laws::Checked::running_small))]
     pub fn running(self) -> usize
         ensures count { result ≡ length (book_of self.entry.bytes.now) }
         ensures few { result ≤ max_running }
@@ -32,6 +34,7 @@ impl<'a> SoundRecord<'a> {
     }
 
     // Which entry has that number, if one has.
+    #[tactic(auto, using(model::proofs::Laws::Sound::sound_length))]
     pub fn find(self, number: u32) -> Option<usize>
         ensures { result ≡ found number (book_of self.entry.bytes.now) }
     {
@@ -44,6 +47,7 @@ impl<'a> SoundRecord<'a> {
     }
 
     // The place that an entry of a number takes: behind all that have no higher number.
+    #[tactic(auto, using(crate::specs::Laws::Entries::place_behind, crate::specs::Laws::Entries::place_first))]
     pub(crate) fn place_of(self, number: u32) -> usize
         ensures { result ≡ place number (book_of self.entry.bytes.now) }
     {
@@ -77,11 +81,7 @@ fn write_entry(part: &mut [u8], new: Entry<'_>)
 
 // Puts a running task's entry in at place k: those from k on move up by one.
 pub(crate) fn insert_entry(record: &mut [u8; RECORD_SIZE], k: usize, new: Entry<'_>)
-    requires place { k ≤ get_or «record».old running_at 0 }
-    requires room { get_or «record».old running_at 0 < max_running }
-    requires number { new.number < words }
-    requires column { new.at.column < 256 }
-    requires bottom { new.at.bottom < words }
+    requires { Enterable «record».old k new.number new.at.column new.at.bottom }
     ensures { Entered «record».old «record».new k (seen new.entry) }
 {
     let n = running(record);

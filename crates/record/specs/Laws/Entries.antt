@@ -1,5 +1,5 @@
 -- MODEL 8.4: entries found by their number, and the place of a number. Assumes nothing.
-use Rattle.std.specs.Prelude.{ℕ, zero, suc, ◌+◌, ◌≤◌, ◌<◌, ◌≡◌, refl, Bool, true, false, Option, None, Some, MatchOption, cond, ltb, List, [], ◌∷◌, ◌++◌, eqb, length, get_or, take, drop}
+use Rattle.std.specs.Prelude.{ℕ, zero, suc, ◌+◌, ◌-◌, ◌≤◌, ◌<◌, ◌≡◌, refl, Bool, true, false, Option, None, Some, MatchOption, cond, ltb, List, [], ◌∷◌, ◌++◌, eqb, length, get_or, take, drop}
 use Rattle.std.proofs.Common.{◌⊎◌, inl, inr, sym, ap, ◌∙◌, arith, lt-ltb, le-ltb, eq-eqb, ne_eqb}
 use Rattle.std.specs.List.{position_or_len}
 use Rattle.std.specs.Option.{is_some}
@@ -86,12 +86,25 @@ place_is m n (f ∷ b) (suc (suc k)) r l lo hi =
     (ap suc (place_is f.number n b (suc k) r.1 (omega arith) (λ i e. lo (suc i) (ap suc e)) (λ j p q. hi (suc j) (omega arith) (omega arith))))
 
 -- the same by the bytes of the entries
-pub place_said : (r : List ℕ) (n k : ℕ) → sound r ≡ true → k ≤ length (book_of r) → ((i : ℕ) → suc i ≡ k → word r (entry_at i) ≤ n)
+place_said : (r : List ℕ) (n k : ℕ) → sound r ≡ true → k ≤ length (book_of r) → ((i : ℕ) → suc i ≡ k → word r (entry_at i) ≤ n)
     → ((j : ℕ) → k ≤ j → j < length (book_of r) → n < word r (entry_at j)) → k ≡ place n (book_of r)
 place_said r n k s q lo hi =
     place_is 0 n (book_of r) k (limits_to (device_of r) (book_of r) (sound_within r s)).rising q
     (λ i e. let m : i < get_or r running_at 0 = omega (arith, running_said r) in omega (arith, number_said r i m, lo i e))
     (λ j p l. let m : j < get_or r running_at 0 = omega (arith, running_said r) in omega (arith, number_said r j m, hi j p l))
+
+-- the entries from j on have higher numbers than n
+pub record Above (r : List ℕ) (n j : ℕ) : Type 0 where
+  pub above : (i : ℕ) → j ≤ i → i < length (book_of r) → n < word r (entry_at i)
+
+-- so its place is behind the entry before them, where that has none
+pub place_behind : (r : List ℕ) (n j : ℕ) → sound r ≡ true → Above r n j → 0 < j → j ≤ length (book_of r) → word r (entry_at (j - 1)) ≤ n → j - 1 + 1 ≡ place n (book_of r)
+place_behind r n j s a o l h =
+    place_said r n (j - 1 + 1) s (omega arith) (λ i e. let k : i ≡ j - 1 = omega arith in rw k h) (λ i p q. a.above i (omega arith) q)
+
+-- and where all entries have, the first
+pub place_first : (r : List ℕ) (n j : ℕ) → sound r ≡ true → Above r n j → j ≤ 0 → 0 ≡ place n (book_of r)
+place_first r n j s a z = place_said r n 0 s (omega arith) (λ i e. absurd (omega arith)) (λ i p q. a.above i (omega arith) q)
 
 -- ---- the book without one entry
 
