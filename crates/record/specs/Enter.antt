@@ -3,7 +3,7 @@ use Rattle.std.specs.Prelude.{ℕ, ◌≡◌, Bool, true, not, ◌&&◌, List}
 use Rattle.model.specs.Bounded.{any_below}
 use Rattle.model.specs.Columns.{Device}
 use Rattle.model.specs.Tasks.{sized, well_formed}
-use Rattle.model.specs.Book.{Book, Placed, covers, free, fits}
+use Rattle.model.specs.Book.{Book, Placed, placed, covers, free, fits}
 use Rattle.model.specs.Record.{image, device_of, book_of}
 use Rattle.model.specs.Sound.{sound}
 use Rattle.record.specs.Columns.{runs_of}
@@ -22,3 +22,8 @@ pub record Placeable (r t : List ℕ) (p y : ℕ) : Type 0 where
   pub sized : sized t ≡ true
   pub well_formed : well_formed t ≡ true
   pub fits : fits (device_of r) (book_of r) t p y ≡ true
+
+-- s is r with the first k blocks of t taken, which fits there
+pub record Taken (r t : List ℕ) (p y k : ℕ) (s : List ℕ) : Type 0 where
+  pub placeable : Placeable r t p y
+  pub taken_are : s ≡ taken (device_of r) (book_of r) (placed t p y) k
