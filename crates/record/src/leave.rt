@@ -13,12 +13,14 @@ use column::join;
 use model::RECORD_SIZE;
 
 // Frees the cells of the task of entry j. Its blocks are read where they stand, in the record.
+#[tactic(auto, using(crate::proofs::Laws::Leave::entry_on, crate::proofs::Laws::Leave::has_task, crate::proofs::Laws::Leave::freeing_first, crate::proofs::Laws::Leave::task_stays))]
 fn free_blocks(record: &mut [u8; RECORD_SIZE], j: usize)
     requires { Runs «record».old j }
     ensures { «record».new ≡ freed_entry «record».old j }
 {
-    let at = EntryBytes { bytes: record, j }.position();
-    let count = EntryBytes { bytes: record, j }.task().count();
+    let entry = EntryBytes { bytes: record, j };
+    let at = entry.position();
+    let count = entry.task().count();
     for k in 0..count {
         let block = EntryBytes { bytes: record, j }.task().block(k);
         edit_block(record, block, at, join);
@@ -26,6 +28,7 @@ fn free_blocks(record: &mut [u8; RECORD_SIZE], j: usize)
 }
 
 // Takes out the task of a number.
+#[tactic(auto, using(model::proofs::Laws::Sound::sound_length, crate::specs::Laws::Entries::found_place, crate::specs::Laws::Entries::found_runs, crate::proofs::Laws::Leave::entry_there, crate::proofs::Laws::Leave::left_record))]
 pub fn leave(record: &mut [u8], number: u32)
     requires { (sound «record».old ≡ true) × (runs_in (book_of «record».old) number ≡ true) }
     ensures { «record».new ≡ record_of (device_of «record».old) (without number (book_of «record».old)) }

@@ -31,7 +31,7 @@ use Rattle.record.specs.Leave.{free_join, freed, Runs, freed_entry}
 use Rattle.record.specs.Laws.Said.{blocks_part, entry_by_bytes}
 use Rattle.record.specs.Laws.Entries.{without_place}
 use Rattle.record.specs.Laws.Columns.{seat}
-use Rattle.record.specs.Laws.Join.{stands_in, freed_room, freed_more, freed_all}
+use Rattle.record.specs.Laws.Join.{stands_in, freed_none, freed_room, freed_more, freed_all}
 use Rattle.record.specs.Laws.Rebuild.{blocks_sized, count_sound, sound_formed}
 
 -- ---- an entry of a sound record, by its bytes
@@ -55,9 +55,6 @@ module _ (r : List ℕ) (j : ℕ) (x : Runs r j) where
   pub task_here : blocks_of r j ≡ (entry_of r j).task
   task_here = sym (ap (λ (e : Running). e.task) said_here)
 
-  pub blocks_here : (t : List ℕ) (n : ℕ) → t ≡ blocks_of r j → n ≡ blocks t → n ≡ blocks (entry_of r j).task
-  blocks_here t n e q = q ∙ ap blocks (e ∙ task_here)
-
   pub has_task : HasTask r j
   has_task = record {
     few = few_here;
@@ -65,15 +62,30 @@ module _ (r : List ℕ) (j : ℕ) (x : Runs r j) where
     well_formed = sound_formed r j has_entry x.sound;
   }
 
--- ---- as the code goes: r is the record at entry, and s the record with k blocks freed
+-- ---- as the code goes: r is the record at entry, and s the record with k of m blocks freed of entry j, which stands at p and y
 
-module _ (r : List ℕ) (j : ℕ) (x : Runs r j) (B : Bytes r) (s : List ℕ) (k : ℕ) (e : s ≡ freed (device_of r) (book_of r) (standing (entry_of r j)) k) where
+pub record Freeing (r : List ℕ) (j p y m : ℕ) (s : List ℕ) (k : ℕ) : Type 0 where
+  pub column : p ≡ (entry_of r j).column
+  pub bottom : y ≡ (entry_of r j).bottom
+  pub count : m ≡ blocks (entry_of r j).task
+  pub freed_are : s ≡ freed (device_of r) (book_of r) (standing (entry_of r j)) k
+
+-- none at first
+pub freeing_first : (r : List ℕ) (j p y m : ℕ) (t : List ℕ) → Runs r j → Bytes r → p ≡ get_or r (entry_at j + 2) 0 → y ≡ word r (entry_at j + 4) → t ≡ blocks_of r j → m ≡ blocks t → Freeing r j p y m r 0
+freeing_first r j p y m t x B pe ye te me = record {
+  column = pe ∙ sym (ap (λ (e : Running). e.column) (said_here r j x));
+  bottom = ye ∙ sym (ap (λ (e : Running). e.bottom) (said_here r j x));
+  count = me ∙ ap blocks (te ∙ task_here r j x);
+  freed_are = freed_none r (standing (entry_of r j)) B x.sound;
+}
+
+module _ (r : List ℕ) (j p y m : ℕ) (s : List ℕ) (k : ℕ) (x : Runs r j) (B : Bytes r) (f : Freeing r j p y m s k) where
   here : In (entry_of r j) (book_of r)
   here = get_d_in (book_of r) j no_entry x.place
 
   shown : Shows s (device_of r) (book_of r) (runs_of (device_of r) (free_join (device_of r) (book_of r) (standing (entry_of r j)) k))
   unfolding freed
-  shown = rw e (image_shows (device_of r) (book_of r) (runs_of (device_of r) (free_join (device_of r) (book_of r) (standing (entry_of r j)) k)))
+  shown = rw f.freed_are (image_shows (device_of r) (book_of r) (runs_of (device_of r) (free_join (device_of r) (book_of r) (standing (entry_of r j)) k)))
 
   -- its entry's bytes stay
   same_entry : part s (entry_at j) entry_size ≡ part r (entry_at j) entry_size
@@ -98,38 +110,44 @@ module _ (r : List ℕ) (j : ℕ) (x : Runs r j) (B : Bytes r) (s : List ℕ) (k
   pub task_same : blocks_of s j ≡ (entry_of r j).task
   task_same = same_blocks ∙ task_here r j x
 
-  -- block k, n as it was read, at the entry's position p, y
-  module _ (l : k < blocks (entry_of r j).task) (t : List ℕ) (lent : t ≡ blocks_of s j) (n : Read) (same : Same n (block t k)) (p y : ℕ) (pe : p ≡ get_or r (entry_at j + 2) 0) (ye : y ≡ word r (entry_at j + 4)) where
-    at_column : p ≡ (entry_of r j).column
-    at_column = pe ∙ sym (ap (λ (e : Running). e.column) (said_here r j x))
+  -- block k, n as it was read
+  module _ (l : k < m) (t : List ℕ) (lent : t ≡ blocks_of s j) where
+    within_task : k < blocks (entry_of r j).task
+    within_task = omega (arith, f.count)
 
-    at_bottom : y ≡ (entry_of r j).bottom
-    at_bottom = ye ∙ sym (ap (λ (e : Running). e.bottom) (said_here r j x))
+    pub on_task : k < blocks t
+    on_task = let e = lent ∙ task_same in rw e within_task
 
-    same_block : Same n (block (entry_of r j).task k)
-    same_block = rw (lent, task_same) at same
+    module _ (n : Read) (same : Same n (block t k)) where
+      same_block : Same n (block (entry_of r j).task k)
+      same_block = rw (lent, task_same) at same
 
-    pub seated : Seated p y n
-    seated = seat (rw (at_column, at_bottom) (stands_in (device_of r) (book_of r) (sound_within r x.sound) (entry_of r j) here k l)) same_block
+      pub seated : Seated p y n
+      seated = seat (rw (f.column, f.bottom) (stands_in (device_of r) (book_of r) (sound_within r x.sound) (entry_of r j) here k within_task)) same_block
 
-    pub join_room : Joinable (y + n.extent.low - reach) (y + n.extent.high - reach) (part s (column_at (p + n.extent.column)) column_size) (count_of s (p + n.extent.column))
-    unfolding placed
-    join_room =
-        rw (same_block.extent.column, same_block.extent.low, same_block.extent.high, at_column, at_bottom)
-        (freed_room (device_of r) (book_of r) (sound_within r x.sound) (entry_of r j) here s k e l)
+      pub join_room : Joinable (y + n.extent.low - reach) (y + n.extent.high - reach) (part s (column_at (p + n.extent.column)) column_size) (count_of s (p + n.extent.column))
+      unfolding placed
+      join_room =
+          rw (same_block.extent.column, same_block.extent.low, same_block.extent.high, f.column, f.bottom)
+          (freed_room (device_of r) (book_of r) (sound_within r x.sound) (entry_of r j) here s k f.freed_are within_task)
 
-    pub block_freed : (q : List ℕ) → q ≡ put_column s (p + n.extent.column) (unite (y + n.extent.low - reach) (y + n.extent.high - reach) (column_list s (p + n.extent.column)))
-        → q ≡ freed (device_of r) (book_of r) (standing (entry_of r j)) (k + 1)
-    unfolding placed
-    block_freed q h =
-        rw add-one
-        ((rw (same_block.extent.column, same_block.extent.low, same_block.extent.high, at_column, at_bottom) at h)
-        ∙ freed_more (device_of r) (book_of r) (sound_within r x.sound) (entry_of r j) here s k e l)
+      pub block_freed : (q : List ℕ) → q ≡ put_column s (p + n.extent.column) (unite (y + n.extent.low - reach) (y + n.extent.high - reach) (column_list s (p + n.extent.column)))
+          → Freeing r j p y m q (k + 1)
+      unfolding placed
+      block_freed q h = record {
+        column = f.column;
+        bottom = f.bottom;
+        count = f.count;
+        freed_are =
+            rw add-one
+            ((rw (same_block.extent.column, same_block.extent.low, same_block.extent.high, f.column, f.bottom) at h)
+            ∙ freed_more (device_of r) (book_of r) (sound_within r x.sound) (entry_of r j) here s k f.freed_are within_task);
+      }
 
 -- when all are freed
-pub all_freed : (r : List ℕ) (j : ℕ) (s : List ℕ) → s ≡ freed (device_of r) (book_of r) (standing (entry_of r j)) (blocks (entry_of r j).task) → s ≡ freed_entry r j
+pub all_freed : (r : List ℕ) (j p y m : ℕ) (s : List ℕ) (k : ℕ) → Freeing r j p y m s k → m ≤ k → k ≤ m → s ≡ freed_entry r j
 unfolding freed_entry
-all_freed r j s e = e
+all_freed r j p y m s k f l h = let e : k ≡ blocks (entry_of r j).task = omega (arith, f.count) in rw e at f.freed_are
 
 -- ---- the entry, once all blocks are freed
 
