@@ -12,6 +12,7 @@ use model::{COLUMNS_AT, COUNTS_AT, INTERVAL_TOP_AT, KINDS_AT, Kind, RECORD_SIZE,
 use words::put16;
 
 // Writes the interval from 0 to top into the part of a column that has none.
+#[tactic(auto, using(model::proofs::Laws::Record::length_column, crate::specs::Laws::Clear::part_one))]
 fn free_part(part: &mut [u8], top: u32)
     requires { (part.old ≡ column_part []) × (top < words) }
     ensures { part.new ≡ column_part (interval 0 top ∷ []) }
@@ -21,6 +22,7 @@ fn free_part(part: &mut [u8], top: u32)
 }
 
 // Gives column c its kind, and frees all its cells.
+#[tactic(auto, using(model::proofs::Laws::Columns::top_in_le, model::proofs::Laws::Kinds::kind_known, crate::specs::Laws::Checked::known_byte, crate::specs::Laws::Clear::closed_kind, crate::specs::Laws::Clear::open_none, crate::specs::Laws::Clear::open_one), unfolding(model::specs::Record::part, model::specs::Parts::splice))]
 fn open_column(record: &mut [u8; RECORD_SIZE], c: usize, rows: u32, kind: u8)
     requires { Closed «record».old c × (rows ≤ max_rows) × (kind ≤ max_kind) }
     ensures { «record».new ≡ put_column (set «record».old (kinds_at + c) kind) c (piece 0 (top_in rows kind) []) }
@@ -34,6 +36,7 @@ fn open_column(record: &mut [u8; RECORD_SIZE], c: usize, rows: u32, kind: u8)
 }
 
 // Writes the record of a new card.
+#[tactic(auto, using(crate::specs::Laws::Clear::opened_none, crate::specs::Laws::Clear::opened_closed, crate::specs::Laws::Clear::opened_more, crate::specs::Laws::Clear::opened_all, crate::specs::Laws::Clear::bounds), unfolding(model::specs::Columns::columns, model::specs::Columns::kind))]
 pub fn clear(record: &mut [u8; RECORD_SIZE], rows: u32, kinds: &[u8])
     requires { device_ok (record { rows = rows; kinds = kinds.now }) ≡ true }
     ensures { «record».new ≡ record_of (record { rows = rows; kinds = kinds.now }) [] }

@@ -15,6 +15,7 @@ use model::{COLUMNS_AT, KINDS_AT, MAX_RUNNING, RECORD_SIZE, ROWS_AT};
 use words::get16;
 
 // MODEL 9.4: whether the number of running entry j is above that of the entry before it, and the first is 1 or more.
+#[tactic(auto, using(crate::specs::Laws::Rebuild::rises_first, crate::specs::Laws::Rebuild::rises_next))]
 pub fn rises(record: &[u8; RECORD_SIZE], j: usize) -> bool
     requires { HasEntry «record».now j }
     ensures { result ≡ ltb (prior 0 (book_of «record».now) j) (entry_of «record».now j).number }
@@ -45,6 +46,7 @@ fn enter_task(scratch: &mut [u8; RECORD_SIZE], entry: Entry<'_>) -> bool
 }
 
 // MODEL 9.3 to 9.5: enters running entry j into the scratch record, if it has a task and its number rises.
+#[tactic(auto, using(crate::specs::Laws::Rebuild::step_refused, crate::specs::Laws::Rebuild::refused_number, crate::specs::Laws::Rebuild::refused_entry, crate::specs::Laws::Rebuild::passed, crate::specs::Laws::Rebuild::entry_ready, crate::specs::Laws::Rebuild::entry_tried))]
 fn enter_entry(scratch: &mut [u8; RECORD_SIZE], record: &[u8; RECORD_SIZE], j: usize) -> bool
     requires { HasEntry «record».now j × Rebuilt «record».now scratch.old j }
     ensures { Step «record».now scratch.new (j + 1) result }
@@ -59,6 +61,7 @@ fn enter_entry(scratch: &mut [u8; RECORD_SIZE], record: &[u8; RECORD_SIZE], j: u
 }
 
 // Enters all running entries into the scratch record, up to the first that fails a test.
+#[tactic(auto, using(crate::specs::Laws::Rebuild::step_refused, crate::specs::Laws::Rebuild::refused_running))]
 fn enter_all(scratch: &mut [u8; RECORD_SIZE], record: &[u8; RECORD_SIZE]) -> bool
     requires { Rebuilt «record».now scratch.old 0 }
     ensures { Step «record».now scratch.new (get_or «record».now running_at 0) result }
@@ -76,6 +79,7 @@ fn enter_all(scratch: &mut [u8; RECORD_SIZE], record: &[u8; RECORD_SIZE]) -> boo
 }
 
 // MODEL 9.9: whether a record's bytes are what is rebuilt from what they say.
+#[tactic(auto, using(crate::specs::Laws::Rebuild::device_said, crate::specs::Laws::Rebuild::refused_device, crate::specs::Laws::Rebuild::rebuilt_none, crate::specs::Laws::Rebuild::rebuilt_all))]
 fn is_rebuilt(record: &[u8; RECORD_SIZE]) -> bool
     ensures { result ≡ sound «record».now }
 {

@@ -84,12 +84,6 @@ module _ (r : List ℕ) (j : ℕ) (x : HasEntry r j) where
   pub refused_number : (ok : Bool) → ok ≡ ltb (prior 0 (book_of r) j) (entry_of r j).number → ok ≡ false → sound r ≡ false
   refused_number ok e f = is_false (sound r) (λ s. let h = sym e ∙ f in let q = (sound_passes r j x s).rises in omega tests)
 
-  pub refused_none : (n : ℕ) → n ≡ block_count r j → n ≡ 0 → sound r ≡ false
-  refused_none n e h = is_false (sound r) (λ s. omega (arith, (sound_passes r j x s).some_blocks))
-
-  pub refused_many : (n : ℕ) → n ≡ block_count r j → max_blocks < n → sound r ≡ false
-  refused_many n e h = is_false (sound r) (λ s. omega (arith, (sound_passes r j x s).few_blocks))
-
   -- an entry without a task
   pub refused_entry : (HasTask r j → ⊥) → sound r ≡ false
   refused_entry h = is_false (sound r) (λ s.
@@ -102,9 +96,6 @@ module _ (r : List ℕ) (j : ℕ) (x : HasEntry r j) where
       let q = sym e ∙ t in
       let n = sized_to (blocks_of r j) h.sized in
       record { rises = omega tests; some_blocks = omega (arith, n.some_blocks, n.whole, blocks_length r j x h.few); few_blocks = h.few }
-
-  pub passes : (ok : Bool) → ok ≡ ltb (prior 0 (book_of r) j) (entry_of r j).number → ok ≡ true → (n : ℕ) → n ≡ block_count r j → (n ≡ 0 → ⊥) → n ≤ max_blocks → Passes r j
-  passes ok e t n c some few = let h = sym e ∙ t in record { rises = omega tests; some_blocks = omega arith; few_blocks = omega arith }
 
 -- ---- the scratch record s, with j tasks of r entered
 

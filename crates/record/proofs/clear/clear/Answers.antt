@@ -1,7 +1,7 @@
 -- `record::clear::clear`: zeros, the head, and then one column after the other (`opened_none`, `opened_more`, `opened_all`). Assumes nothing.
-use Rattle.std.proofs.Common.{◌≡◌, refl, arith, add-one, length}
+use Rattle.std.proofs.Common.{refl, arith, add-one}
 use Rattle.model.specs.Columns.{columns, kind}
-use Rattle.record.specs.Laws.Clear.{opened_none, opened_closed, opened_more, opened_all, bounds}
+use Rattle.record.specs.Laws.Clear.{opened_none, opened_closed, opened_more, bounds}
 use Rattle.record.proofs.clear.clear.Goals as goal
 
 pub put16-requires : goal.put16-requires
@@ -29,7 +29,3 @@ unfolding columns kind
 loop-c-preserved c =
     let b = bounds _ c.requires in
     rw (c.open_column.ensures, add-one) (opened_more _ _ _ c.loop-c.invariant (omega arith) _ refl (omega arith))
-
-pub returns : goal.returns
-unfolding columns
-returns c = let e : c.loop-c.c ≡ length c.args.kinds.now = omega arith in opened_all _ _ (rw e at c.loop-c.invariant)

@@ -6,12 +6,8 @@ use Rattle.model.specs.Record.{part}
 use Rattle.model.specs.Parts.{splice}
 use Rattle.model.proofs.Laws.Columns.{top_in_le}
 use Rattle.model.proofs.Laws.Kinds.{kind_known}
-use Rattle.record.specs.Laws.Checked.{known_byte}
-use Rattle.record.specs.Laws.Clear.{closed_kind, open_none, open_one}
+use Rattle.record.specs.Laws.Clear.{closed_kind, open_one}
 use Rattle.record.proofs.clear.open_column.Goals as goal
-
-pub unwrap-requires : goal.unwrap-requires
-unwrap-requires c = known_byte _ _ c.try_from.ensures c.requires.2
 
 pub free_part-requires : goal.free_part-requires
 unfolding part
@@ -25,8 +21,3 @@ unfolding splice
 returns-then-top-gt0 c =
     let t : c.top-top.result ≡ top_in c.args.rows c.args.kind = c.top-top.ensures ∙ ap (top_in _) (kind_known _ _ _ c.try_from.ensures c.unwrap.ensures) in
     rw (c.part_at.ensures.end, c.part_at.ensures.start, add-sub_cancel_left, ← t) (open_one _ _ _ _ c.if-top-gt0.true c.free_part.ensures)
-
-pub returns-else-top-gt0 : goal.returns-else-top-gt0
-returns-else-top-gt0 c =
-    let t : c.top-top.result ≡ top_in c.args.rows c.args.kind = c.top-top.ensures ∙ ap (top_in _) (kind_known _ _ _ c.try_from.ensures c.unwrap.ensures) in
-    open_none _ _ _ (closed_kind _ _ _ c.requires.0) (omega arith)

@@ -1,14 +1,8 @@
 -- `record::sound::enter_entry`: an entry of a sound record passes each test; what its bytes say is tried in the scratch record. Assumes nothing.
 use Rattle.std.proofs.Common.{refl}
 use Rattle.record.specs.Entries.{seen}
-use Rattle.record.specs.Laws.Rebuild.{refused_number, refused_entry, passed, entry_ready, entry_tried, step_refused}
+use Rattle.record.specs.Laws.Rebuild.{passed, entry_ready, entry_tried}
 use Rattle.record.proofs.sound.enter_entry.Goals as goal
-
-pub returns-then-not-rises : goal.returns-then-not-rises
-returns-then-not-rises c = step_refused _ _ _ (refused_number _ _ c.requires.0 _ c.rises.ensures c.if-not-rises.true)
-
-pub returns-in_default : goal.returns-in_default
-returns-in_default c = step_refused _ _ _ (refused_entry _ _ c.requires.0 c.in_default.ensures)
 
 pub enter_task-requires : goal.enter_task-requires
 enter_task-requires c =
