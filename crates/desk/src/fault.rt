@@ -6,7 +6,7 @@ ghost use Rattle.desk.specs.Fault.{line_of, number_of};
 // An input that is too long, of which no line is looked at; a line that is missing or malformed, by its number; or the second line's device, which
 // new refuses.
 #[derive(Clone, Copy, Debug, PartialEq, Eq)]
-pub enum Fault {
+pub(crate) enum Fault {
     TooLong,
     Malformed(u32),
     Device(card::Refusal),
@@ -14,7 +14,7 @@ pub enum Fault {
 
 impl Fault {
     // The number of the line, or 0 where no line is looked at.
-    pub fn line(self) -> u32
+    pub(crate) fn line(self) -> u32
         ensures { result ≡ line_of self }
     {
         match self {

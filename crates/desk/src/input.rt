@@ -13,7 +13,7 @@ use crate::fault::Fault;
 use model::RECORD_SIZE;
 
 // MODEL 17.1: the first line of some bytes, without its newline, and the bytes after it; nothing where there are no bytes.
-pub fn next_line(input: &[u8]) -> Option<(&[u8], &[u8])>
+pub(crate) fn next_line(input: &[u8]) -> Option<(&[u8], &[u8])>
     ensures { MatchOption result (length input.now ≡ 0) (λ p. Parts input.now p.0.now p.1.now) }
 {
     if input.is_empty() {
@@ -75,7 +75,7 @@ fn first<'a>(input: &'a [u8], card: &mut [u8; RECORD_SIZE]) -> Result<&'a [u8], 
 }
 
 // MODEL 18.2: the first three lines of an input that is not too long.
-pub fn begin<'a>(input: &'a [u8], card: &mut [u8; RECORD_SIZE]) -> Result<&'a [u8], Fault>
+pub(crate) fn begin<'a>(input: &'a [u8], card: &mut [u8; RECORD_SIZE]) -> Result<&'a [u8], Fault>
     ensures { MatchResult result (λ r. Begun card.new (first (lines input.now)) r.now × (length r.now ≤ length input.now) × (length input.now ≤ max_sheet)) (λ f. program input.now ≡ names_line ++ shown_fault f) }
 {
     if MAX_SHEET < input.len() {

@@ -10,7 +10,7 @@ use arrayvec::ArrayString;
 use line::print::OutputLine;
 
 // A line that has an answer and no range. The answer is a number here, since that is what a line of output has (MODEL 18.3).
-pub fn say<const N: usize>(out: &mut ArrayString<N>, number: u32, answer: i32)
+pub(crate) fn say<const N: usize>(out: &mut ArrayString<N>, number: u32, answer: i32)
     requires { array_string_len out.old + line_room ≤ N }
     ensures { out.new.bytes ≡ out.old.bytes ++ says number answer }
 {
@@ -26,7 +26,7 @@ pub fn say<const N: usize>(out: &mut ArrayString<N>, number: u32, answer: i32)
 }
 
 // A line that is at fault.
-pub fn say_fault<const N: usize>(out: &mut ArrayString<N>, fault: Fault)
+pub(crate) fn say_fault<const N: usize>(out: &mut ArrayString<N>, fault: Fault)
     requires { array_string_len out.old + line_room ≤ N }
     ensures { out.new.bytes ≡ out.old.bytes ++ shown_fault fault }
 {
