@@ -34,9 +34,9 @@ pub record Leaves (left : Left) (card draft out : List ℕ) : Type 0 where
 
 -- ---- ranges
 
--- range i of a listing's bytes
-abbrev pub range_at : List ℕ → ℕ → Range
-range_at o i = record { column = get_or o (range_size * i) 0; step = get_or o (range_size * i + 1) 0; first = word o (range_size * i + 2); last = word o (range_size * i + 4) }
+-- a range by its bytes
+abbrev pub range_of : List ℕ → Range
+range_of b = record { column = get_or b 0 0; step = get_or b 1 0; first = word b 2; last = word b 4 }
 
 -- a range's line of output
 abbrev pub range_line : ℕ → ℤ → Range → List ℕ

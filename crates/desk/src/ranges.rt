@@ -6,7 +6,7 @@ ghost use Rattle.model.specs.Sheet.{list_draft};
 ghost use Rattle.model.specs.Program.{shows, on_call};
 ghost use Rattle.arrayvec.specs.ArrayString.{array_string_len};
 ghost use Rattle.line.specs.Print.{line_room};
-ghost use Rattle.desk.specs.Desk.{output_room, desk_of, range_at, range_line};
+ghost use Rattle.desk.specs.Desk.{output_room, desk_of, range_of, range_line};
 
 use crate::Desk;
 use crate::output::say;
@@ -21,15 +21,15 @@ fn print_ranges<const N: usize>(listing: &[u8], count: u16, number: u32, out: &m
     requires room { array_string_len out.old + line_room * count ≤ N }
     ensures { out.new.bytes ≡ out.old.bytes ++ shows number (pos count) (ranges_in count listing.now) }
 {
-    for i in 0..usize::from(count) {
-        let start = RANGE_SIZE * i;
+    let (ranges, _) = listing.as_chunks::<RANGE_SIZE>();
+    for range in &ranges[..usize::from(count)] {
         let line = OutputLine {
             line: number,
             answer: i32::from(count),
-            column: u32::from(listing[start]),
-            first: get16(listing, start + RANGE_FIRST_AT),
-            step: u32::from(listing[start + RANGE_STEP_AT]),
-            last: get16(listing, start + RANGE_LAST_AT),
+            column: u32::from(range[0]),
+            first: get16(range, RANGE_FIRST_AT),
+            step: u32::from(range[RANGE_STEP_AT]),
+            last: get16(range, RANGE_LAST_AT),
         };
         out.push_str(line.text().as_str());
     }

@@ -1,10 +1,11 @@
 -- A listing printed: its ranges read back from the bytes, and its answer. Assumes nothing.
-use Rattle.std.specs.Prelude.{ℕ, zero, suc, ◌+◌, ◌*◌, ◌≤◌, refl, ◌⊎◌, Bool, true, false, not, ltb, ℤ, pos, negsuc, length, drop, replicate}
+use Rattle.std.specs.Prelude.{ℕ, zero, suc, ◌+◌, ◌*◌, ◌<◌, ◌≤◌, refl, ◌⊎◌, Bool, true, false, not, ltb, ℤ, pos, negsuc, length, map, take, drop, get_or, replicate}
 use Rattle.std.proofs.Math.Path.{◌≡◌, ap}
-use Rattle.std.proofs.Common.{sym, ◌∙◌, inl, inr, add-one, arith, length-append, get_or-drop}
+use Rattle.std.proofs.Common.{sym, ◌∙◌, inl, inr, arith, length-append}
 use Rattle.std.proofs.Math.Option.{Option, none, some}
 use mathlib.Core.List.{List, [], ◌∷◌, ◌++◌, append-nil}
-use Rattle.std.proofs.lemmas.List.{length-replicate}
+use Rattle.std.specs.Simd.{first_chunks}
+use Rattle.std.proofs.lemmas.List.{length-replicate, get_or-take, map_more}
 use Rattle.model.specs.Limits.{range_size, list_room}
 use Rattle.model.specs.Bounded.{join_in}
 use Rattle.model.specs.Columns.{Device}
@@ -20,41 +21,26 @@ use Rattle.model.proofs.Laws.Listing.{join_append}
 use Rattle.model.proofs.Laws.RangeBytes.{read_ranges}
 use Rattle.card.specs.declared.refusal.Refusal.{Refusal}
 use Rattle.card.specs.Refusals.{number_of}
-use Rattle.desk.specs.Desk.{desk_of, Card, range_at, range_line}
+use Rattle.desk.specs.Desk.{desk_of, Card, range_of, range_line}
 use Rattle.desk.specs.Laws.Card.{on_card}
 use Rattle.desk.specs.Laws.Refusals.{refused_below}
 
--- ---- one range more
+-- ---- ranges by their bytes
 
-range_past : (o : List ℕ) (n : ℕ) → range_at (drop range_size o) n ≡ range_at o (suc n)
-unfolding word
-range_past o n =
-    let a : range_size + range_size * n ≡ range_size * suc n = omega arith in
-    let b : range_size + (range_size * n + 1) ≡ range_size * suc n + 1 = omega arith in
-    let c : range_size + (range_size * n + 2) ≡ range_size * suc n + 2 = omega arith in
-    let d : range_size + (range_size * n + 2 + 1) ≡ range_size * suc n + 2 + 1 = omega arith in
-    let e : range_size + (range_size * n + 4) ≡ range_size * suc n + 4 = omega arith in
-    let f : range_size + (range_size * n + 4 + 1) ≡ range_size * suc n + 4 + 1 = omega arith in
-    rw (get_or-drop range_size o (range_size * n) 0, get_or-drop range_size o (range_size * n + 1) 0, get_or-drop range_size o (range_size * n + 2) 0, get_or-drop range_size o (range_size * n + 2 + 1) 0, get_or-drop range_size o (range_size * n + 4) 0, get_or-drop range_size o (range_size * n + 4 + 1) 0, a, b, c, d, e, f)
+-- those of a listing, one after the other
+pub ranges_are : (n k : ℕ) (o : List ℕ) → n ≤ k → map range_of (take n (first_chunks range_size k o)) ≡ ranges_in n o
+unfolding ranges_in word
+ranges_are zero k o h = refl
+ranges_are (suc n) zero o h = absurd (omega arith)
+ranges_are (suc n) (suc k) o h =
+    rw (get_or-take range_size o 0 0 (omega arith), get_or-take range_size o 1 0 (omega arith), get_or-take range_size o 2 0 (omega arith), get_or-take range_size o 3 0 (omega arith), get_or-take range_size o 4 0 (omega arith), get_or-take range_size o 5 0 (omega arith))
+    (ap (λ (L : List Range). range_of o ∷ L) (ranges_are n k (drop range_size o) (omega arith)))
 
-ranges_more : (n : ℕ) (o : List ℕ) → ranges_in (suc n) o ≡ ranges_in n o ++ (range_at o n ∷ [])
-unfolding ranges_in
-ranges_more zero o = refl
-ranges_more (suc n) o = ap (λ (L : List Range). range_at o 0 ∷ L) (ranges_more n (drop range_size o) ∙ ap (λ (r : Range). ranges_in n (drop range_size o) ++ (r ∷ [])) (range_past o n))
-
-pub shows_more : (number : ℕ) (a : ℤ) (n : ℕ) (o : List ℕ)
-    → shows number a (ranges_in n o) ++ range_line number a (range_at o n) ≡ shows number a (ranges_in (n + 1) o)
+-- one more printed
+pub shows_more : (number : ℕ) (a : ℤ) (i : ℕ) (L : List (List ℕ)) → i < length L
+    → shows number a (map range_of (take i L)) ++ range_line number a (range_of (get_or L i [])) ≡ shows number a (map range_of (take (i + 1) L))
 unfolding join_in
-shows_more number a n o =
-    sym (rw (add-one n, ranges_more n o) (join_append (range_line number a) (ranges_in n o) (range_at o n ∷ []) ∙ ap (λ (l : List ℕ). shows number a (ranges_in n o) ++ l) (one (range_line number a (range_at o n)))))
-  where
-    one : (l : List ℕ) → l ++ [] ≡ l
-    one l = simp append-nil
-
--- no range
-pub shows_none : (number : ℕ) (a : ℤ) (o out : List ℕ) → out ≡ out ++ shows number a (ranges_in 0 o)
-unfolding ranges_in join_in
-shows_none number a o out = sym (append-nil out)
+shows_more number a i L h = sym (rw (map_more range_of L i [] h, join_append (range_line number a) (map range_of (take i L)) (range_of (get_or L i []) ∷ []), append-nil (range_line number a (range_of (get_or L i [])))))
 
 -- ---- the listing of a card
 
