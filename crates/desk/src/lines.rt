@@ -20,8 +20,7 @@ impl Desk {
     fn choose(&self) -> Result<Chosen, Refusal>
         ensures { Changes (on_record self.now.card (choose self.now.draft.bytes.items)) (answer_by position_of result) self.now.card }
     {
-        let draft = &self.draft;
-        card::choose(&self.card, draft.bytes.as_slice())
+        card::choose(&self.card, self.draft.bytes.as_slice())
     }
 
     // P: the draft is placed.
@@ -29,10 +28,9 @@ impl Desk {
         ensures answers { Changes (on_record self.old.card (place self.old.draft.bytes.items task column bottom)) (answer_by (λ _. pos 0) result) self.new.card }
         ensures same_draft { self.new.draft.bytes.items ≡ self.old.draft.bytes.items }
     {
-        let draft = &self.draft;
         card::place(
             &mut self.card,
-            draft.bytes.as_slice(),
+            self.draft.bytes.as_slice(),
             u32::from(task),
             u32::from(column),
             i32::from(bottom),

@@ -44,9 +44,8 @@ impl Desk {
         ensures same_draft { self.new.draft.bytes.items ≡ self.old.draft.bytes.items }
         ensures shows { out.new.bytes ≡ (on_call number (desk_of self.old.card self.old.draft.bytes.items) list_draft).printed }
     {
-        let draft = &self.draft;
         let mut listing = [0u8; LIST_ROOM];
-        match card::list(&self.card, draft.bytes.as_slice(), &mut listing) {
+        match card::list(&self.card, self.draft.bytes.as_slice(), &mut listing) {
             Ok(count) => print_ranges(&listing, count, number, out),
             Err(refusal) => say(out, number, i32::from(refusal)),
         }
