@@ -7,6 +7,7 @@ ghost use Rattle.desk.specs.Desk.{draft_room};
 
 use crate::DRAFT_ROOM;
 use arrayvec::ArrayVec;
+use card::Refusal;
 use line::call::BlockCall;
 
 // The bytes of whole blocks, 32 of them at most.
@@ -27,15 +28,14 @@ impl Draft {
     }
 
     // B: a block more, while there is room.
-    pub(crate) fn add(&mut self, block: BlockCall) -> Result<(), card::Refusal>
+    pub(crate) fn add(&mut self, block: BlockCall) -> Result<(), Refusal>
         ensures variant { IsOk result ↔ (length self.old.bytes.items + block_size ≤ draft_room) }
         ensures added { OnOk result (self.new.bytes.items ≡ self.old.bytes.items ++ call_bytes block) }
         ensures refused { IfErr result (λ e. e ≡ TaskLength) }
         ensures kept { OnErr result (self.new.bytes.items ≡ self.old.bytes.items) }
     {
-        match self.bytes.try_extend_from_slice(&block.bytes()) {
-            Ok(()) => Ok(()),
-            Err(_) => Err(card::Refusal::TaskLength),
-        }
+        self.bytes
+            .try_extend_from_slice(&block.bytes())
+            .map_err(|_| Refusal::TaskLength)
     }
 }

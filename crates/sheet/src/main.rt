@@ -54,10 +54,8 @@ fn run<P: Print>(to: &P, input: &[u8]) -> io::Result<()> {
 
 // The system's text of a fault, without the number behind it.
 fn reason(text: &str) -> &str {
-    match text.split_once(" (os error ") {
-        Some((before, _)) => before,
-        None => text,
-    }
+    text.split_once(" (os error ")
+        .map_or(text, |(before, _)| before)
 }
 
 // Tells which end failed and why, as `sheet: standard input: Is a directory`.
