@@ -35,6 +35,7 @@ fn line(input: &[u8], number: u32) -> Result<(&[u8], &[u8]), Fault>
 }
 
 // The card of the second line: new judges its device.
+#[tactic(auto, using(crate::specs::Laws::Input::refuses_none))]
 fn new_card(line: &[u8], card: &mut [u8; RECORD_SIZE]) -> Result<(), Fault>
     ensures { MatchResult result (λ _. Opened (device_line line.now) card.new) (Refuses (device_line line.now)) }
 {
@@ -44,6 +45,7 @@ fn new_card(line: &[u8], card: &mut [u8; RECORD_SIZE]) -> Result<(), Fault>
 }
 
 // The third line. The answer is the input after it.
+#[tactic(auto, using(crate::specs::Laws::Input::third_none, crate::specs::Laws::Input::third_wrong, crate::specs::Laws::Input::third_right))]
 fn third(input: &[u8]) -> Result<&[u8], Fault>
     ensures { MatchResult result (λ r. ((d : Device) → GoesOn d (third d (lines input.now)) r.now) × (length r.now ≤ length input.now)) (λ f. (d : Device) → third d (lines input.now) ≡ shown_fault f) }
 {
@@ -55,6 +57,7 @@ fn third(input: &[u8]) -> Result<&[u8], Fault>
 }
 
 // The second line, and the third. The card is that of the second line.
+#[tactic(auto, using(crate::specs::Laws::Input::second_none, crate::specs::Laws::Input::second_opened))]
 fn second<'a>(input: &'a [u8], card: &mut [u8; RECORD_SIZE]) -> Result<&'a [u8], Fault>
     ensures { Leads input.now card.new (second (lines input.now)) result }
 {
@@ -64,6 +67,7 @@ fn second<'a>(input: &'a [u8], card: &mut [u8; RECORD_SIZE]) -> Result<&'a [u8],
 }
 
 // The first line, and the second and the third.
+#[tactic(auto, using(crate::specs::Laws::Input::leads_on, crate::specs::Laws::Input::first_none, crate::specs::Laws::Input::first_wrong, crate::specs::Laws::Input::first_right))]
 fn first<'a>(input: &'a [u8], card: &mut [u8; RECORD_SIZE]) -> Result<&'a [u8], Fault>
     ensures { Leads input.now card.new (first (lines input.now)) result }
 {
@@ -75,6 +79,7 @@ fn first<'a>(input: &'a [u8], card: &mut [u8; RECORD_SIZE]) -> Result<&'a [u8], 
 }
 
 // MODEL 18.2: the first three lines of an input that is not too long.
+#[tactic(auto, using(crate::specs::Laws::Program::program_long, crate::specs::Laws::Program::program_short))]
 pub(crate) fn begin<'a>(input: &'a [u8], card: &mut [u8; RECORD_SIZE]) -> Result<&'a [u8], Fault>
     ensures { MatchResult result (λ r. Begun card.new (first (lines input.now)) r.now × (length r.now ≤ length input.now) × (length input.now ≤ max_sheet)) (λ f. program input.now ≡ names_line ++ shown_fault f) }
 {

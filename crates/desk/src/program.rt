@@ -11,6 +11,7 @@ use arrayvec::ArrayString;
 
 // The start: the names line, and the first three lines of an input that is not too long. The card is that of the second line, and the draft is empty.
 // Where a line is at fault nothing follows.
+#[tactic(auto, using(crate::specs::Laws::Card::card_begun, crate::specs::Laws::Program::starts_some))]
 pub fn start<'a, const N: usize>(
     input: &'a [u8],
     out: &mut ArrayString<N>,

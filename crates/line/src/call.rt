@@ -116,6 +116,7 @@ impl Fields {
 }
 
 // MODEL 17.9: the call of a sheet line, without its newline. A malformed line has none.
+#[tactic(auto, using(crate::specs::Laws::Calls::with_number, crate::specs::Laws::Calls::line_long, crate::specs::Laws::Calls::line_short))]
 pub fn read(line: &[u8]) -> Option<Call>
     ensures { Says result (sheet_line line.now) }
 {

@@ -19,6 +19,7 @@ pub fn byte(field: &[u8]) -> Option<u8>
 
 // MODEL 17.5: the number that a field says, if its type has it. A number has one form, that in which it is printed: `parse` alone would
 // take a plus sign and zeros in front too.
+#[tactic(auto, using(crate::specs::Laws::Reading::no_text, crate::specs::Laws::Reading::no_number))]
 pub fn number<T: TryFrom<i32>>(field: &[u8]) -> Option<T>
 where
     T::Error: Drop,

@@ -32,6 +32,7 @@ fn push_number<I: Integer>(text: &mut ArrayString<LINE_ROOM>, number: I, after: 
 
 impl OutputLine {
     // The line as text, with its newline.
+    #[tactic(auto, using(crate::specs::Laws::Print::line_decimal))]
     pub fn text(self) -> ArrayString<LINE_ROOM>
         ensures text { result.bytes ≡ output_line self.line self.answer self.column self.first self.step self.last }
         ensures fits { array_string_len result ≤ line_room }

@@ -16,6 +16,7 @@ use Rattle.model.proofs.Laws.Bounded.{and_to, is_false}
 use Rattle.model.proofs.Laws.OnRecord.{new_done, new_bad_device}
 use Rattle.model.specs.Columns.{Device, device_ok}
 use Rattle.model.specs.OnRecord.{new}
+use Rattle.words.specs.Words.{Same}
 use Rattle.line.specs.Device.{Reads}
 use Rattle.line.specs.declared.device.DeviceLine.{DeviceLine}
 use Rattle.card.specs.Leaves.{Changes}
@@ -137,9 +138,9 @@ module _ (s : List ℕ) (h : length s ≡ 0) where
   first_none = rw (no_lines s h)
 
 module _ (s l rest : List ℕ) (p : Parts s l rest) where
-  pub third_wrong : (l ≡ second_names → ⊥) → (d : Device) → third d (lines s) ≡ shown_fault (Malformed 3)
+  pub third_wrong : {b : Bool} → Same l second_names b → b ≡ false → (d : Device) → third d (lines s) ≡ shown_fault (Malformed 3)
   unfolding third
-  third_wrong h d = rw (p.lines_are, same_not l second_names h)
+  third_wrong h e d = rw (p.lines_are, same_not l second_names (h.no e))
 
   pub third_right : l ≡ second_names → (d : Device) → GoesOn d (third d (lines s)) rest
   unfolding third
@@ -149,9 +150,9 @@ module _ (s l rest : List ℕ) (p : Parts s l rest) where
   pub leads_on : (card : List ℕ) {o o' : List ℕ} → o ≡ o' → (x : Result (Bor (List ℕ)) Fault) → Leads rest card o' x → Leads s card o x
   leads_on card e x h = rw e (MatchResult-weaker x h (λ r y. (y.0, omega (arith, p.shorter))) (λ f y. y))
 
-  pub first_wrong : (l ≡ first_names → ⊥) → first (lines s) ≡ shown_fault (Malformed 1)
+  pub first_wrong : {b : Bool} → Same l first_names b → b ≡ false → first (lines s) ≡ shown_fault (Malformed 1)
   unfolding first
-  first_wrong h = rw (p.lines_are, same_not l first_names h)
+  first_wrong h e = rw (p.lines_are, same_not l first_names (h.no e))
 
   pub first_right : l ≡ first_names → first (lines s) ≡ second (lines rest)
   unfolding first

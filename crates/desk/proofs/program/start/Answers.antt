@@ -1,4 +1,4 @@
--- `start`: a fault in the first three lines, or the line after them, if there is one. Assumes nothing.
+-- `start`: no line after the first three. Assumes nothing.
 use Rattle.desk.specs.Laws.Card.{card_begun}
 use Rattle.desk.specs.Laws.Program.{starts_none, starts_some}
 use Rattle.desk.proofs.program.start.Goals as goal
@@ -7,11 +7,3 @@ pub returns-in_err-stand-in-Ok : goal.returns-in_err-stand-in-Ok
 returns-in_err-stand-in-Ok g c =
     let x = c.in-Ok.ensures in
     rw c.from_residual.ensures (starts_none _ _ _ _ x.0 x.2 (rw (c.push_str.ensures.bytes, c.clear.ensures) c.names.ensures) c.in_err-stand-in-Ok.ensures)
-
-pub invariant_of-desk : goal.invariant_of-desk
-invariant_of-desk g c = record { is_card = card_begun c.in-Ok.ensures.0 }
-
-pub returns-in_ok-stand-in-Ok : goal.returns-in_ok-stand-in-Ok
-returns-in_ok-stand-in-Ok g c =
-    let x = c.in-Ok.ensures in
-    rw c.new.ensures (starts_some _ _ _ _ x.0 x.2 (rw (c.push_str.ensures.bytes, c.clear.ensures) c.names.ensures) c.in_ok-stand-in-Ok.stand c.in_ok-stand-in-Ok.ensures)
