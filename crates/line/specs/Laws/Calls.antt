@@ -25,7 +25,7 @@ nought_bits (negsuc n) f = zero_bits (negsuc n) f ∙ ne_eqb (suc n) 0 (λ e. om
 
 -- ---- one field, as it is read
 
-module _ {fs : List (List ℕ)} {k : ℕ} {r : Option (Bor (List ℕ))} {l' : List (List ℕ)} (t : Taken fs k r l') where
+module _ {fs : List (List ℕ)} {k : ℕ} {r : Option (Bor (List ℕ))} (t : Taken fs k r) where
   -- what is read of the next field is read of field k; where there is none, that is empty
   pub read_here : (P : List ℕ → Type 0) → MatchOption r (P []) (λ x. P x.now) → P (get_or fs k [])
   read_here P = go r t.here
@@ -130,7 +130,7 @@ module _ (l : List ℕ) where
   are_six h = rw (eq-eqb (length (fields l)) 6 h)
 
   -- six fields that were read, and whether a seventh follows
-  pub six_done : (f : Fields) {r : Option (Bor (List ℕ))} {l' : List (List ℕ)} (b : Bool) → Taken (fields l) 6 r l' → is_some r ≡ not b → 5 < length (fields l) → six (fields l) ≡ say f → read_said (then_some b f) ≡ six_fields l
+  pub six_done : (f : Fields) {r : Option (Bor (List ℕ))} (b : Bool) → Taken (fields l) 6 r → is_some r ≡ not b → 5 < length (fields l) → six (fields l) ≡ say f → read_said (then_some b f) ≡ six_fields l
   six_done f {r} b t = go r b t.here
     where
       go : (r : Option (Bor (List ℕ))) (b : Bool) → MatchOption r (length (fields l) ≤ 6) (λ x. (6 < length (fields l)) × (get_or (fields l) 6 [] ≡ x.now)) → is_some r ≡ not b → 5 < length (fields l)

@@ -66,7 +66,7 @@ no_letter (x ∷ l) h = absurd (omega arith)
 pub ruleset letters = (no_letter, letters_push, letters_bad, all_letters)
 
 -- the kinds of field k, as they are read
-pub kinds_here : {fs : List (List ℕ)} {k : ℕ} {r : Option (Bor (List ℕ))} {l' : List (List ℕ)} → Taken fs k r l' → (o : Option (ArrayVec ℕ)) → MatchOption r (o ≡ None) (λ x. items_said o ≡ kinds_field x.now)
+pub kinds_here : {fs : List (List ℕ)} {k : ℕ} {r : Option (Bor (List ℕ))} → Taken fs k r → (o : Option (ArrayVec ℕ)) → MatchOption r (o ≡ None) (λ x. items_said o ≡ kinds_field x.now)
     → items_said o ≡ kinds_field (get_or fs k [])
 unfolding kinds_field
 kinds_here {r = r} t o h = read_here t (λ f. items_said o ≡ kinds_field f) (go r h)
@@ -101,7 +101,7 @@ module _ (l : List ℕ) where
   unfolding read_two
   kinds_lost e = lost (rw e (with_none (natural_field max_rows_field (get_or (fields l) 0 []))))
 
-  pub two_done : (rows : ℕ) (kinds : ArrayVec ℕ) {r : Option (Bor (List ℕ))} {l' : List (List ℕ)} (b : Bool) → Taken (fields l) 2 r l' → is_some r ≡ not b → length l ≤ max_line
+  pub two_done : (rows : ℕ) (kinds : ArrayVec ℕ) {r : Option (Bor (List ℕ))} (b : Bool) → Taken (fields l) 2 r → is_some r ≡ not b → length l ≤ max_line
       → natural_field max_rows_field (get_or (fields l) 0 []) ≡ some rows → kinds_field (get_or (fields l) 1 []) ≡ some kinds.items
       → device_said (then_some b (record { rows = rows; kinds = kinds })) ≡ device_line l
   unfolding read_two kinds_field

@@ -3,7 +3,7 @@ use Rattle.std.proofs.Common.{rules, tests, refl, arith, None, sym, ap, ◌∙�
 use Rattle.model.specs.Limits.{max_rows_field}
 use Rattle.model.specs.Sheet.{fields}
 use Rattle.line.specs.Device.{items_said}
-use Rattle.line.specs.Laws.Fields.{start, next}
+use Rattle.line.specs.Laws.Fields.{first, next}
 use Rattle.line.specs.Laws.Numbers.{read}
 use Rattle.line.specs.Laws.Calls.{natural_here}
 use Rattle.line.specs.Laws.Device.{device_long, kinds_here, rows_lost, kinds_lost, two_done, with_number}
@@ -15,27 +15,24 @@ returns-then-line-gt-MAX_LINE c = with_number None (sym (device_long c.args.line
 pub returns-in_err-rows : goal.returns-in_err-rows
 returns-in_err-rows c =
     let l = c.args.line.now in
-    let at = start c.split-fields.result l c.split-fields.ensures.rest c.split-fields.ensures.done in
-    let rows = next _ (fields l) 0 _ _ _ at c.next.ensures.steps (λ x b q k. search (rules, tests)) in
-    let lost = sym (natural_here rows 16 max_rows_field refl (omega arith) _ _ c.and_then.ensures) ∙ ap read c.in_err-rows.was in
+    let rows = first _ l c.split-fields.ensures.rest c.split-fields.ensures.done c.next.ensures.steps (λ x b q k. search (rules, tests)) in
+    let lost = sym (natural_here rows.taken 16 max_rows_field refl (omega arith) _ _ c.and_then.ensures) ∙ ap read c.in_err-rows.was in
     rw c.from_residual.ensures (with_number None (sym (rows_lost l lost)))
 
 pub returns-in_err-kinds : goal.returns-in_err-kinds
 returns-in_err-kinds c =
     let l = c.args.line.now in
-    let at = start c.split-fields.result l c.split-fields.ensures.rest c.split-fields.ensures.done in
-    let rows = next _ (fields l) 0 _ _ _ at c.next.ensures.steps (λ x b q k. search (rules, tests)) in
-    let kinds = next _ (fields l) 1 _ _ _ rows.rest c.next-2.ensures.steps (λ x b q k. search (rules, tests)) in
-    let lost = sym (kinds_here kinds c.and_then-2.result c.and_then-2.ensures) ∙ ap items_said c.in_err-kinds.was in
+    let rows = first _ l c.split-fields.ensures.rest c.split-fields.ensures.done c.next.ensures.steps (λ x b q k. search (rules, tests)) in
+    let kinds = next rows.rest c.next-2.ensures.steps in
+    let lost = sym (kinds_here kinds.taken c.and_then-2.result c.and_then-2.ensures) ∙ ap items_said c.in_err-kinds.was in
     rw c.from_residual-in_err-kinds.ensures (with_number None (sym (kinds_lost l lost)))
 
 pub returns : goal.returns
 returns c =
     let l = c.args.line.now in
-    let at = start c.split-fields.result l c.split-fields.ensures.rest c.split-fields.ensures.done in
-    let rows = next _ (fields l) 0 _ _ _ at c.next.ensures.steps (λ x b q k. search (rules, tests)) in
-    let kinds = next _ (fields l) 1 _ _ _ rows.rest c.next-2.ensures.steps (λ x b q k. search (rules, tests)) in
-    let end = next _ (fields l) 2 _ _ _ kinds.rest c.next-3.ensures.steps (λ x b q k. search (rules, tests)) in
-    let n = sym (natural_here rows 16 max_rows_field refl (omega arith) _ _ c.and_then.ensures) ∙ ap read c.in_ok-rows.was in
-    let ks = sym (kinds_here kinds c.and_then-2.result c.and_then-2.ensures) ∙ ap items_said c.in_ok-kinds.was in
-    rw (c.then_some.ensures, c.from.ensures) (with_number _ (two_done l c.in_ok-rows.rows c.in_ok-kinds.kinds c.is_none.result end c.is_none.ensures c.if-line-gt-MAX_LINE.false n ks))
+    let rows = first _ l c.split-fields.ensures.rest c.split-fields.ensures.done c.next.ensures.steps (λ x b q k. search (rules, tests)) in
+    let kinds = next rows.rest c.next-2.ensures.steps in
+    let end = next kinds.rest c.next-3.ensures.steps in
+    let n = sym (natural_here rows.taken 16 max_rows_field refl (omega arith) _ _ c.and_then.ensures) ∙ ap read c.in_ok-rows.was in
+    let ks = sym (kinds_here kinds.taken c.and_then-2.result c.and_then-2.ensures) ∙ ap items_said c.in_ok-kinds.was in
+    rw (c.then_some.ensures, c.from.ensures) (with_number _ (two_done l c.in_ok-rows.rows c.in_ok-kinds.kinds c.is_none.result end.taken c.is_none.ensures c.if-line-gt-MAX_LINE.false n ks))

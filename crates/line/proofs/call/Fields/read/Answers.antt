@@ -3,7 +3,7 @@ use Rattle.std.proofs.Common.{rules, tests, w16, refl, arith, sym, ◌∙◌, ap
 use Rattle.std.proofs.lemmas.Int.{to_z-of_z}
 use Rattle.model.specs.Limits.{max_task_field, max_column_field}
 use Rattle.model.specs.Sheet.{fields}
-use Rattle.line.specs.Laws.Fields.{start, next}
+use Rattle.line.specs.Laws.Fields.{first, next}
 use Rattle.line.specs.Laws.Numbers.{read}
 use Rattle.line.specs.Laws.Calls.{byte_here, natural_here, height_here, lost, letter_lost, task_lost, column_lost, kind_lost, bottom_lost, top_lost, six_is, there, six_done}
 use Rattle.line.proofs.call.Fields.read.Goals as goal
@@ -13,74 +13,67 @@ use Rattle.line.proofs.call.Fields.read.Goals as goal
 pub returns-in_err-and_then : goal.returns-in_err-and_then
 returns-in_err-and_then c =
     let l = c.args.line.now in
-    let at = start c.split-fields.result l c.split-fields.ensures.rest c.split-fields.ensures.done in
-    let letter = next _ (fields l) 0 _ _ _ at c.next.ensures.steps (λ x b q k. search (rules, tests)) in
-    rw c.from_residual.ensures (sym (lost l (letter_lost (fields l) (sym (byte_here letter c.and_then.ensures) ∙ c.in_err-and_then.was))))
+    let letter = first _ l c.split-fields.ensures.rest c.split-fields.ensures.done c.next.ensures.steps (λ x b q k. search (rules, tests)) in
+    rw c.from_residual.ensures (sym (lost l (letter_lost (fields l) (sym (byte_here letter.taken c.and_then.ensures) ∙ c.in_err-and_then.was))))
 
 pub returns-in_err-and_then-2 : goal.returns-in_err-and_then-2
 returns-in_err-and_then-2 c =
     let l = c.args.line.now in
-    let at = start c.split-fields.result l c.split-fields.ensures.rest c.split-fields.ensures.done in
-    let letter = next _ (fields l) 0 _ _ _ at c.next.ensures.steps (λ x b q k. search (rules, tests)) in
-    let task = next _ (fields l) 1 _ _ _ letter.rest c.next-2.ensures.steps (λ x b q k. search (rules, tests)) in
-    rw c.from_residual-in_err-and_then-2.ensures (sym (lost l (task_lost (fields l) (sym (natural_here task 16 max_task_field refl (omega arith) _ _ c.and_then-2.ensures) ∙ ap read c.in_err-and_then-2.was))))
+    let letter = first _ l c.split-fields.ensures.rest c.split-fields.ensures.done c.next.ensures.steps (λ x b q k. search (rules, tests)) in
+    let task = next letter.rest c.next-2.ensures.steps in
+    rw c.from_residual-in_err-and_then-2.ensures (sym (lost l (task_lost (fields l) (sym (natural_here task.taken 16 max_task_field refl (omega arith) _ _ c.and_then-2.ensures) ∙ ap read c.in_err-and_then-2.was))))
 
 pub returns-in_err-and_then-3 : goal.returns-in_err-and_then-3
 returns-in_err-and_then-3 c =
     let l = c.args.line.now in
-    let at = start c.split-fields.result l c.split-fields.ensures.rest c.split-fields.ensures.done in
-    let letter = next _ (fields l) 0 _ _ _ at c.next.ensures.steps (λ x b q k. search (rules, tests)) in
-    let task = next _ (fields l) 1 _ _ _ letter.rest c.next-2.ensures.steps (λ x b q k. search (rules, tests)) in
-    let column = next _ (fields l) 2 _ _ _ task.rest c.next-3.ensures.steps (λ x b q k. search (rules, tests)) in
-    rw c.from_residual-in_err-and_then-3.ensures (sym (lost l (column_lost (fields l) (sym (natural_here column 8 max_column_field refl (omega arith) _ _ c.and_then-3.ensures) ∙ ap read c.in_err-and_then-3.was))))
+    let letter = first _ l c.split-fields.ensures.rest c.split-fields.ensures.done c.next.ensures.steps (λ x b q k. search (rules, tests)) in
+    let task = next letter.rest c.next-2.ensures.steps in
+    let column = next task.rest c.next-3.ensures.steps in
+    rw c.from_residual-in_err-and_then-3.ensures (sym (lost l (column_lost (fields l) (sym (natural_here column.taken 8 max_column_field refl (omega arith) _ _ c.and_then-3.ensures) ∙ ap read c.in_err-and_then-3.was))))
 
 pub returns-in_err-and_then-4 : goal.returns-in_err-and_then-4
 returns-in_err-and_then-4 c =
     let l = c.args.line.now in
-    let at = start c.split-fields.result l c.split-fields.ensures.rest c.split-fields.ensures.done in
-    let letter = next _ (fields l) 0 _ _ _ at c.next.ensures.steps (λ x b q k. search (rules, tests)) in
-    let task = next _ (fields l) 1 _ _ _ letter.rest c.next-2.ensures.steps (λ x b q k. search (rules, tests)) in
-    let column = next _ (fields l) 2 _ _ _ task.rest c.next-3.ensures.steps (λ x b q k. search (rules, tests)) in
-    let kind = next _ (fields l) 3 _ _ _ column.rest c.next-4.ensures.steps (λ x b q k. search (rules, tests)) in
-    rw c.from_residual-in_err-and_then-4.ensures (sym (lost l (kind_lost (fields l) (sym (byte_here kind c.and_then-4.ensures) ∙ c.in_err-and_then-4.was))))
+    let letter = first _ l c.split-fields.ensures.rest c.split-fields.ensures.done c.next.ensures.steps (λ x b q k. search (rules, tests)) in
+    let task = next letter.rest c.next-2.ensures.steps in
+    let column = next task.rest c.next-3.ensures.steps in
+    let kind = next column.rest c.next-4.ensures.steps in
+    rw c.from_residual-in_err-and_then-4.ensures (sym (lost l (kind_lost (fields l) (sym (byte_here kind.taken c.and_then-4.ensures) ∙ c.in_err-and_then-4.was))))
 
 pub returns-in_err-and_then-5 : goal.returns-in_err-and_then-5
 returns-in_err-and_then-5 c =
     let l = c.args.line.now in
-    let at = start c.split-fields.result l c.split-fields.ensures.rest c.split-fields.ensures.done in
-    let letter = next _ (fields l) 0 _ _ _ at c.next.ensures.steps (λ x b q k. search (rules, tests)) in
-    let task = next _ (fields l) 1 _ _ _ letter.rest c.next-2.ensures.steps (λ x b q k. search (rules, tests)) in
-    let column = next _ (fields l) 2 _ _ _ task.rest c.next-3.ensures.steps (λ x b q k. search (rules, tests)) in
-    let kind = next _ (fields l) 3 _ _ _ column.rest c.next-4.ensures.steps (λ x b q k. search (rules, tests)) in
-    let bottom = next _ (fields l) 4 _ _ _ kind.rest c.next-5.ensures.steps (λ x b q k. search (rules, tests)) in
-    rw c.from_residual-in_err-and_then-5.ensures (sym (lost l (bottom_lost (fields l) (sym (height_here bottom _ _ c.and_then-5.ensures) ∙ ap read c.in_err-and_then-5.was))))
+    let letter = first _ l c.split-fields.ensures.rest c.split-fields.ensures.done c.next.ensures.steps (λ x b q k. search (rules, tests)) in
+    let task = next letter.rest c.next-2.ensures.steps in
+    let column = next task.rest c.next-3.ensures.steps in
+    let kind = next column.rest c.next-4.ensures.steps in
+    let bottom = next kind.rest c.next-5.ensures.steps in
+    rw c.from_residual-in_err-and_then-5.ensures (sym (lost l (bottom_lost (fields l) (sym (height_here bottom.taken _ _ c.and_then-5.ensures) ∙ ap read c.in_err-and_then-5.was))))
 
 pub returns-in_err-and_then-6 : goal.returns-in_err-and_then-6
 returns-in_err-and_then-6 c =
     let l = c.args.line.now in
-    let at = start c.split-fields.result l c.split-fields.ensures.rest c.split-fields.ensures.done in
-    let letter = next _ (fields l) 0 _ _ _ at c.next.ensures.steps (λ x b q k. search (rules, tests)) in
-    let task = next _ (fields l) 1 _ _ _ letter.rest c.next-2.ensures.steps (λ x b q k. search (rules, tests)) in
-    let column = next _ (fields l) 2 _ _ _ task.rest c.next-3.ensures.steps (λ x b q k. search (rules, tests)) in
-    let kind = next _ (fields l) 3 _ _ _ column.rest c.next-4.ensures.steps (λ x b q k. search (rules, tests)) in
-    let bottom = next _ (fields l) 4 _ _ _ kind.rest c.next-5.ensures.steps (λ x b q k. search (rules, tests)) in
-    let top = next _ (fields l) 5 _ _ _ bottom.rest c.next-6.ensures.steps (λ x b q k. search (rules, tests)) in
-    rw c.from_residual-in_err-and_then-6.ensures (sym (lost l (top_lost (fields l) (sym (height_here top _ _ c.and_then-6.ensures) ∙ ap read c.in_err-and_then-6.was))))
+    let letter = first _ l c.split-fields.ensures.rest c.split-fields.ensures.done c.next.ensures.steps (λ x b q k. search (rules, tests)) in
+    let task = next letter.rest c.next-2.ensures.steps in
+    let column = next task.rest c.next-3.ensures.steps in
+    let kind = next column.rest c.next-4.ensures.steps in
+    let bottom = next kind.rest c.next-5.ensures.steps in
+    let top = next bottom.rest c.next-6.ensures.steps in
+    rw c.from_residual-in_err-and_then-6.ensures (sym (lost l (top_lost (fields l) (sym (height_here top.taken _ _ c.and_then-6.ensures) ∙ ap read c.in_err-and_then-6.was))))
 
 pub returns : goal.returns
 returns c =
     let l = c.args.line.now in
-    let at = start c.split-fields.result l c.split-fields.ensures.rest c.split-fields.ensures.done in
-    let letter = next _ (fields l) 0 _ _ _ at c.next.ensures.steps (λ x b q k. search (rules, tests)) in
-    let task = next _ (fields l) 1 _ _ _ letter.rest c.next-2.ensures.steps (λ x b q k. search (rules, tests)) in
-    let column = next _ (fields l) 2 _ _ _ task.rest c.next-3.ensures.steps (λ x b q k. search (rules, tests)) in
-    let kind = next _ (fields l) 3 _ _ _ column.rest c.next-4.ensures.steps (λ x b q k. search (rules, tests)) in
-    let bottom = next _ (fields l) 4 _ _ _ kind.rest c.next-5.ensures.steps (λ x b q k. search (rules, tests)) in
-    let top = next _ (fields l) 5 _ _ _ bottom.rest c.next-6.ensures.steps (λ x b q k. search (rules, tests)) in
-    let end = next _ (fields l) 6 _ _ _ top.rest c.next-7.ensures.steps (λ x b q k. search (rules, tests)) in
-    let low = sym (height_here bottom _ _ c.and_then-5.ensures) ∙ ap read c.in_ok-and_then-5.was in
-    let high = sym (height_here top _ _ c.and_then-6.ensures) ∙ ap read c.in_ok-and_then-6.was in
-    let six = six_is (fields l) (sym (byte_here letter c.and_then.ensures) ∙ c.in_ok-and_then.was) (sym (natural_here task 16 max_task_field refl (omega arith) _ _ c.and_then-2.ensures) ∙ ap read c.in_ok-and_then-2.was)
-    (sym (natural_here column 8 max_column_field refl (omega arith) _ _ c.and_then-3.ensures) ∙ ap read c.in_ok-and_then-3.was) (sym (byte_here kind c.and_then-4.ensures) ∙ c.in_ok-and_then-4.was) low high in
+    let letter = first _ l c.split-fields.ensures.rest c.split-fields.ensures.done c.next.ensures.steps (λ x b q k. search (rules, tests)) in
+    let task = next letter.rest c.next-2.ensures.steps in
+    let column = next task.rest c.next-3.ensures.steps in
+    let kind = next column.rest c.next-4.ensures.steps in
+    let bottom = next kind.rest c.next-5.ensures.steps in
+    let top = next bottom.rest c.next-6.ensures.steps in
+    let end = next top.rest c.next-7.ensures.steps in
+    let low = sym (height_here bottom.taken _ _ c.and_then-5.ensures) ∙ ap read c.in_ok-and_then-5.was in
+    let high = sym (height_here top.taken _ _ c.and_then-6.ensures) ∙ ap read c.in_ok-and_then-6.was in
+    let six = six_is (fields l) (sym (byte_here letter.taken c.and_then.ensures) ∙ c.in_ok-and_then.was) (sym (natural_here task.taken 16 max_task_field refl (omega arith) _ _ c.and_then-2.ensures) ∙ ap read c.in_ok-and_then-2.was)
+    (sym (natural_here column.taken 8 max_column_field refl (omega arith) _ _ c.and_then-3.ensures) ∙ ap read c.in_ok-and_then-3.was) (sym (byte_here kind.taken c.and_then-4.ensures) ∙ c.in_ok-and_then-4.was) low high in
     rw (c.then_some.ensures, to_z-of_z w16 c.in_ok-and_then-5.field-0 (search rules), to_z-of_z w16 c.in_ok-and_then-6.field-0 (search rules))
-    (six_done l _ c.is_none.result end c.is_none.ensures (there (fields l) 5 high) six)
+    (six_done l _ c.is_none.result end.taken c.is_none.ensures (there (fields l) 5 high) six)
