@@ -1,4 +1,5 @@
 // MODEL 16.4: the calls of `card` in the C calling form, for the match server: an answer crosses as its number (MODEL 12.1 and 13.1).
+// A call that answers no value answers 0: `()` has no `Into<i32>`.
 // A slice crosses as a pointer and a length. What is linked is target/staticlib/libcard.a; host/card.h declares these functions.
 #![tactic(auto)]
 

@@ -1,5 +1,5 @@
 -- MODEL 18: what a line finds and what it leaves (a record, a draft's bytes and an output), by the model's line by the book. Assumes nothing.
-use Rattle.std.specs.Prelude.{ℕ, ◌+◌, ◌*◌, ◌/◌, ◌≡◌, true, List, ℤ, get_or}
+use Rattle.std.specs.Prelude.{ℕ, ◌*◌, ◌/◌, ◌≡◌, true, List, ℤ, get_or}
 use Rattle.model.specs.Limits.{block_size, max_blocks, range_size, list_room}
 use Rattle.model.specs.Record.{record_of, device_of, book_of}
 use Rattle.model.specs.Sound.{within}

@@ -34,7 +34,7 @@ fn line(input: &[u8], number: u32) -> Result<(&[u8], &[u8]), Fault>
     next_line(input).ok_or(Fault::Malformed(number))
 }
 
-// The card of the second line: new judges its device.
+// The card of the second line: new judges its device. The card is lent down to here: handed back, its 29,188 bytes would be moved at each return.
 #[tactic(auto, using(crate::specs::Laws::Input::refuses_none))]
 fn new_card(line: &[u8], card: &mut [u8; RECORD_SIZE]) -> Result<(), Fault>
     ensures { MatchResult result (λ _. Opened (device_line line.now) card.new) (Refuses (device_line line.now)) }

@@ -45,7 +45,8 @@ impl Desk {
         card::release(&mut self.card, u32::from(task))
     }
 
-    // What a call does to the desk, and prints.
+    // What a call does to the desk, and prints. `number` and `out` go together to all that prints; a struct of both would be made anew for each line.
+    // A call that answers no value prints 0: `()` has no `Into<i32>`.
     fn on_call<const N: usize>(&mut self, number: u32, call: Call, out: &mut ArrayString<N>)
         requires room { output_room ≤ N }
         requires empty { out.old.bytes ≡ [] }

@@ -5,7 +5,8 @@ ghost use Rattle.line.specs.Block.{call_bytes};
 use crate::call::BlockCall;
 
 impl BlockCall {
-    // The block's bytes, with bottom and top in two's complement (MODEL 4.3).
+    // The block's bytes, with bottom and top in two's complement (MODEL 4.3). A method, as `to_le_bytes` is one, and no `From`: a block has other bytes in
+    // a line.
     #[tactic(auto, unfolding(model::specs::Program::block_bytes, model::specs::Record::bytes16))]
     pub fn bytes(self) -> [u8; model::BLOCK_SIZE]
         ensures { result ≡ call_bytes self }

@@ -30,7 +30,8 @@ pub fn is_second_names(line: &[u8]) -> bool
     line == b"call task column kind bottom top".as_slice()
 }
 
-// MODEL 17.7: the kinds of a field: one letter or more, each the letter of a kind.
+// MODEL 17.7: the kinds of a field: one letter or more, each the letter of a kind. A loop and no `collect`, which would need the heap, and of which std
+// does not say where it fails.
 #[tactic(auto, using(crate::specs::Laws::Device::letters), unfolding(model::specs::Sheet::kind_letters))]
 fn kinds(field: &[u8]) -> Option<ArrayVec<u8, MAX_LINE>>
     requires { length field.now ≤ max_line }

@@ -32,7 +32,7 @@ where
     T::try_from(number).ok()
 }
 
-// MODEL 17.7: the kind of a letter.
+// MODEL 17.7: the kind of a letter. A function and no `TryFrom<u8>`: that of `Kind` takes a kind's number (MODEL 3.3).
 #[tactic(auto, unfolding(model::specs::Sheet::kind_letter))]
 pub fn kind(letter: u8) -> Option<Kind>
     ensures { kind_said result ≡ kind_letter letter }

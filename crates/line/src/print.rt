@@ -48,7 +48,7 @@ impl OutputLine {
     }
 }
 
-// MODEL 18.1: the names of the output, with their newline.
+// MODEL 18.1: the names of the output, with their newline. A function and no `const`, so that a contract says what they are.
 pub fn names() -> &'static str
     ensures { result.now ≡ names_line }
 {

@@ -1,8 +1,7 @@
 -- `new_card`: the device of a line, handed to new. Assumes nothing.
-use Rattle.std.proofs.Common.{◌≡◌, rules}
+use Rattle.std.proofs.Common.{rules}
 use Rattle.std.proofs.lemmas.Result.{err_from_is_err_and}
-use Rattle.desk.specs.declared.fault.Fault.TheVariants.{Malformed}
-use Rattle.desk.specs.Laws.Input.{refuses_none, opened}
+use Rattle.desk.specs.Laws.Input.{opened}
 use Rattle.desk.proofs.input.new_card.Goals as goal
 
 pub returns-in_err-new : goal.returns-in_err-new

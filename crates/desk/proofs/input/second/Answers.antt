@@ -1,6 +1,6 @@
 -- `second`: no card. Assumes nothing.
 use Rattle.std.proofs.lemmas.Result.{err_from_is_err_and}
-use Rattle.desk.specs.Laws.Input.{second_none, second_refused, second_opened}
+use Rattle.desk.specs.Laws.Input.{second_refused}
 use Rattle.desk.proofs.input.second.Goals as goal
 
 pub returns-in_err-new_card : goal.returns-in_err-new_card

@@ -1,6 +1,5 @@
 -- `start`: no line after the first three. Assumes nothing.
-use Rattle.desk.specs.Laws.Card.{card_begun}
-use Rattle.desk.specs.Laws.Program.{starts_none, starts_some}
+use Rattle.desk.specs.Laws.Program.{starts_none}
 use Rattle.desk.proofs.program.start.Goals as goal
 
 pub returns-in_err-stand-in-Ok : goal.returns-in_err-stand-in-Ok

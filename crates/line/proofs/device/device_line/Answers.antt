@@ -1,7 +1,6 @@
 -- `line::device::device_line` meets its contract: two fields, the second all kinds. Assumes nothing.
 use Rattle.std.proofs.Common.{rules, tests, refl, arith, None, sym, ap, ◌∙◌}
 use Rattle.model.specs.Limits.{max_rows_field}
-use Rattle.model.specs.Sheet.{fields}
 use Rattle.line.specs.Device.{items_said}
 use Rattle.line.specs.Laws.Fields.{first, next}
 use Rattle.line.specs.Laws.Numbers.{read}
