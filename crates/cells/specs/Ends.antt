@@ -4,7 +4,7 @@ use Rattle.model.specs.Limits.{max_intervals, column_size, words}
 use Rattle.runs.specs.Intervals.{Interval, intervals as maximal_runs}
 use Rattle.model.specs.Record.{padded, column_part}
 use Rattle.model.proofs.Laws.Cells.{scaled}
-use Rattle.cells.specs.Bits.{most_words, word_bits, is_set, cell_bit}
+use Rattle.cells.specs.Bits.{is_set, cell_bit}
 
 -- ---- the numbers that pass a test
 

@@ -51,14 +51,16 @@ fn mark_words(words: &mut [u64], run: Range<u32>) -> bool
     let mut hit = 0;
     for q in run.start / u64::BITS..run.end.div_ceil(u64::BITS) {
         let here = span(u64::BITS * q, &run);
-        let word = words[q as usize];
-        hit |= word & here;
-        words[q as usize] = word | here;
+        // as: std has no From<u32> for usize
+        let i = q as usize;
+        hit |= words[i] & here;
+        words[i] |= here;
     }
     hit == 0
 }
 
 // The same, faster: most runs lie in one word and need no loop.
+#[tactic(auto, using(crate::specs::Laws::Marks::run_shows, crate::specs::Laws::Marks::mark_one))]
 pub fn mark(words: &mut [u64], run: Range<u32>) -> bool
     requires { RunIn words.old run.start run.end }
     ensures { Marked words.old run.start run.end words.new result }
@@ -68,6 +70,7 @@ pub fn mark(words: &mut [u64], run: Range<u32>) -> bool
     if u64::BITS < run.end - base {
         return mark_words(words, run);
     }
+    // as: std has no From<u32> for usize
     let q = first as usize;
     let here = u64::MAX >> (u64::BITS - (run.end - run.start)) << (run.start - base);
     let word = words[q];
@@ -93,18 +96,29 @@ fn top_bit(word: u64) -> u64
 }
 
 // Writes the set bits of a word, each times the height, into a part from number `from` on, and answers the number of the next.
+#[tactic(auto, using(crate::specs::Laws::Writes::writing_start, crate::specs::Laws::Writes::writing_room, crate::specs::Laws::Spots::cleared_less))]
 fn write_ends(part: &mut [u8], from: usize, word: u64, base: u32, height: u32) -> usize
     requires { Writable height part.old from (spots base word_bits word) × (base ≤ word_bits * most_words) }
     ensures { EndsWritten height part.old from (spots base word_bits word) part.new result }
 {
     let mut rest = word;
     let mut i = from;
+    // a `while`: std has no iterator over the set bits of a word
     while rest != 0 {
         put16(part, 2 * i, height * (base + rest.trailing_zeros()));
         rest &= rest - 1;
         i += 1;
     }
     i
+}
+
+// The first cell of word q.
+fn first_cell(q: usize) -> u32
+    requires { q ≤ most_words }
+    ensures { result ≡ word_bits * q }
+{
+    // as: below 2^32, by the clause
+    u64::BITS * q as u32
 }
 
 impl ColumnBits<'_> {
@@ -117,7 +131,7 @@ impl ColumnBits<'_> {
         let Some(word) = self.words.get(q) else {
             return 0;
         };
-        !word & low(self.cells.saturating_sub(u64::BITS * q as u32))
+        !word & low(self.cells.saturating_sub(first_cell(q)))
     }
 
     // Writes the free intervals of the column into its part, which is all zeros, and answers how many they are.
@@ -130,7 +144,7 @@ impl ColumnBits<'_> {
         for q in 0..self.words.len() + 1 {
             let free = self.free(q);
             let changes = change_word(free, carry);
-            i = write_ends(part, i, changes, u64::BITS * q as u32, self.height);
+            i = write_ends(part, i, changes, first_cell(q), self.height);
             carry = top_bit(free);
         }
         i / 2

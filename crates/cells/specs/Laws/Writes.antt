@@ -125,29 +125,30 @@ module _ (ws : List ℕ) (n h : ℕ) (c : Fillable ws n h) {p : List ℕ} {i car
   pub filling_size : length p ≡ column_size
   filling_size = ap length w.wrote ∙ numbered_length h (hits (change (free_below ws n)) 0 (word_bits * q))
 
-  module _ (t : ℕ) (d : Shows t (change (free_below ws n)) (word_bits * q)) where
-    pub filling_room : q ≤ length ws → Writable h p i (spots (word_bits * q) word_bits t)
+  module _ (t b : ℕ) (at : b ≡ word_bits * q) (d : Shows t (change (free_below ws n)) (word_bits * q)) where
+    pub filling_room : q ≤ length ws → Writable h p i (spots b word_bits t)
     filling_room k =
         let H = hits (change (free_below ws n)) 0 (word_bits * q) in
         let L = spots (word_bits * q) word_bits t in
         let (rest, cut) = split_ends ws n h c q t d k in
         let (a, b) = small_append h (H ++ L) rest (rw cut at (small_ends h n (is_free ws) c.small)) in
-        record {
+        rw at record {
           size = filling_size;
           few = omega (arith, w.count, ap length cut, length-append (H ++ L) rest, length-append H L, ends_length (runs_of ws n h c), few ws n h c);
           small = (small_append h H L a).1;
         }
 
     pub filling_next : (next : ℕ) → next < 2 → is_set next ≡ one_below (free_below ws n) (word_bits * q + word_bits)
-        → (o : List ℕ) (m : ℕ) → EndsWritten h p i (spots (word_bits * q) word_bits t) o m → Filling ws n h o m next (q + 1)
+        → (o : List ℕ) (m : ℕ) → EndsWritten h p i (spots b word_bits t) o m → Filling ws n h o m next (q + 1)
     filling_next next u v o m r =
         let more = word_ends ws n (word_bits * q) t d in
         let e : word_bits * (q + 1) ≡ word_bits * q + word_bits = omega arith in
+        let wrote = rw at at r in
         record {
           one = u;
           carry_is = rw e v;
-          wrote = rw (e, more) (r.wrote _ w.wrote w.count);
-          count = rw (e, more, length-append) (omega (arith, w.count, r.count));
+          wrote = rw (e, more) (wrote.wrote _ w.wrote w.count);
+          count = rw (e, more, length-append) (omega (arith, w.count, wrote.count));
         }
 
   pub filling_end : q ≡ length ws + 1 → PartIs p (i / 2) (bit_intervals ws n h)
