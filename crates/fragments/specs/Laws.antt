@@ -2,6 +2,7 @@
 pub mod Sweep
 pub mod Indexed
 pub mod Grid
+pub mod Summed
 pub mod Count
 pub mod OnBytes
 pub mod Free

@@ -18,14 +18,10 @@ fn total(record: SoundRecord) -> usize
     ensures total { result ≡ base_of (runs_of «record».entry.bytes.now) (columns_of (device_of «record».entry.bytes.now)) }
     ensures few { result ≤ max_columns * max_intervals }
 {
-    let mut n = 0;
-    for c in 0..record.columns() {
-        n += record.column(c).count;
-    }
-    n
+    (0..record.columns()).map(|c| record.column(c).count).sum()
 }
 
-// Joins what touches in all neighbouring columns. `base` is the node of column c's first interval.
+// Joins what touches in all neighbouring columns. The nodes of a column follow those of the column on its left.
 fn join_all<const N: usize>(forest: &mut Forest<N>, record: SoundRecord) -> u32
     requires { base_of (runs_of «record».bytes.now) (columns_of (device_of «record».bytes.now)) ≤ N }
     ensures { Joins (card_edges (heights (device_of «record».entry.bytes.now)) (runs_of «record».entry.bytes.now) (columns_of (device_of «record».entry.bytes.now))) forest.old.parents forest.new.parents result }
@@ -48,5 +44,6 @@ pub fn count_sets(record: SoundRecord) -> u32
     let mut forest = Forest::<NODES>::new();
     let n = total(record);
     forest.set_apart(n);
+    // as: no more than max_columns * max_intervals, by the clause of `total`
     n as u32 - join_all(&mut forest, record)
 }

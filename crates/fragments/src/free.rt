@@ -1,37 +1,35 @@
 // MODEL 22.2 and 22.4: the free cells of a sound record, and the degree. The half rows of a column's intervals are whole cells.
-ghost use Rattle.std.specs.Prelude.{◌≡◌, ◌*◌, ◌/◌, ◌≤◌, ◌<◌, length};
+ghost use Rattle.std.specs.Prelude.{◌≡◌, ◌*◌, ◌≤◌, ◌<◌, length};
 ghost use Rattle.runs.specs.Intervals.{Apart};
 ghost use Rattle.model.specs.Limits.{max_columns, max_intervals, whole_degree};
 ghost use Rattle.model.specs.Columns.{columns as columns_of};
-ghost use Rattle.model.specs.Fragments.{heights, free_cells, degree as degree_from};
+ghost use Rattle.model.specs.Fragments.{free_cells, degree as degree_from};
 ghost use Rattle.model.specs.Record.{device_of, book_of};
-ghost use Rattle.model.specs.Sound.{count_of};
 ghost use Rattle.column.specs.Part.{listed_in};
-ghost use Rattle.column.specs.Laws.Lent.{lent};
 ghost use Rattle.fragments.specs.Free.{spans, max_spans, max_free};
+ghost use Rattle.fragments.specs.OnBytes.{runs_of};
 
 use column::Column;
 use record::checked::SoundRecord;
 
 // The half rows of all intervals of a column.
 fn free_in(column: Column) -> u32
-    requires { Apart 0 (listed_in column.part.now column.count) }
-    ensures spans { result ≡ spans (listed_in column.entry.part.now column.entry.count) }
-    ensures few { result ≤ max_spans }
+    requires apart { Apart 0 (listed_in column.part.now column.count) }
+    requires few { spans (listed_in column.part.now column.count) ≤ max_spans }
+    ensures { result ≡ spans (listed_in column.entry.part.now column.entry.count) }
 {
-    let mut n = 0;
-    for i in 0..column.count {
-        let free = column.interval(i);
-        n += free.top - free.bottom;
-    }
-    n
+    (0..column.count)
+        .map(|i| {
+            let free = column.interval(i);
+            free.top - free.bottom
+        })
+        .sum()
 }
 
 // The free cells of column c.
 fn column_free(record: SoundRecord, c: usize) -> u32
     requires { c < columns_of (device_of «record».bytes.now) }
-    ensures cells { result ≡ spans (listed_in (lent «record».entry.bytes.now c) (count_of «record».entry.bytes.now c)) / heights (device_of «record».entry.bytes.now) c }
-    ensures few { result ≤ max_spans }
+    ensures { result ≡ spans (runs_of «record».entry.bytes.now c) }
 {
     free_in(record.column(c)) / record.kind(c).height()
 }
@@ -41,11 +39,7 @@ pub fn count_free(record: SoundRecord) -> u32
     ensures cells { result ≡ length (free_cells (device_of «record».entry.bytes.now) (book_of «record».entry.bytes.now)) }
     ensures few { result ≤ max_free }
 {
-    let mut n = 0;
-    for c in 0..record.columns() {
-        n += column_free(record, c);
-    }
-    n
+    (0..record.columns()).map(|c| column_free(record, c)).sum()
 }
 
 // MODEL 22.4: the degree. The bounds only keep it within 32 bits.

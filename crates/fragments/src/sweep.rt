@@ -48,6 +48,7 @@ pub fn sweep<const N: usize>(
     let mut joins = 0;
     let mut i = 0;
     let mut j = 0;
+    // a `while`: each turn moves one of two pointers on
     while i < left.count && j < right.count {
         let x = Node {
             number: base + i,
