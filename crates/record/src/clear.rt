@@ -36,6 +36,7 @@ fn open_column(record: &mut [u8; RECORD_SIZE], c: usize, rows: u32, kind: u8)
 }
 
 // Writes the record of a new card.
+// Rows and kinds stay apart, here and at `device_ok`: so they come from C and from a record's head, and a struct of both would be made for each call.
 #[tactic(auto, using(crate::specs::Laws::Clear::opened_none, crate::specs::Laws::Clear::opened_closed, crate::specs::Laws::Clear::opened_more, crate::specs::Laws::Clear::opened_all, crate::specs::Laws::Clear::bounds), unfolding(model::specs::Columns::columns, model::specs::Columns::kind))]
 pub fn clear(record: &mut [u8; RECORD_SIZE], rows: u32, kinds: &[u8])
     requires { device_ok (record { rows = rows; kinds = kinds.now }) ≡ true }
@@ -43,7 +44,7 @@ pub fn clear(record: &mut [u8; RECORD_SIZE], rows: u32, kinds: &[u8])
 {
     record.fill(0);
     put16(record, ROWS_AT, rows);
-    record[COLUMNS_AT] = kinds.len() as u8;
+    record[COLUMNS_AT] = kinds.len() as u8; // `as`: a device has 64 columns at most
     for (c, kind) in kinds.iter().enumerate() {
         open_column(record, c, rows, *kind);
     }

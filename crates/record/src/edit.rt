@@ -32,5 +32,5 @@ pub(crate) fn edit_block<F: FnOnce(&mut [u8], usize, Interval) -> usize>(
         count,
         block.extent.rows_at(at.bottom),
     );
-    record[COUNTS_AT + c] = left as u8;
+    record[COUNTS_AT + c] = left as u8; // `as`: the clause `few`, 64 intervals at most
 }

@@ -47,6 +47,7 @@ impl<'a> SoundRecord<'a> {
     }
 
     // The place that an entry of a number takes: behind all that have no higher number.
+    // By a loop: `rev`, `find` and `map_or` in a chain, with what its closure requires, are no plainer.
     #[tactic(auto, using(crate::specs::Laws::Entries::place_behind, crate::specs::Laws::Entries::place_first))]
     pub(crate) fn place_of(self, number: u32) -> usize
         ensures { result ≡ place number (book_of self.entry.bytes.now) }
@@ -72,8 +73,8 @@ fn write_entry(part: &mut [u8], new: Entry<'_>)
     let blocks = new.task.bytes;
     part.fill(0);
     put16(part, 0, new.number);
-    part[ENTRY_COLUMN_AT] = new.at.column as u8;
-    part[ENTRY_COUNT_AT] = new.task.count() as u8;
+    part[ENTRY_COLUMN_AT] = new.at.column as u8; // `as`: the clause `column`
+    part[ENTRY_COUNT_AT] = new.task.count() as u8; // `as`: a task has 32 blocks at most
     put16(part, ENTRY_BOTTOM_AT, new.at.bottom);
     let e = BLOCKS_AT + blocks.len();
     part[BLOCKS_AT..e].copy_from_slice(blocks);
@@ -90,7 +91,7 @@ pub(crate) fn insert_entry(record: &mut [u8; RECORD_SIZE], k: usize, new: Entry<
     let end = entry_at(n);
     record.copy_within(a..end, e);
     write_entry(&mut record[a..e], new);
-    record[RUNNING_AT] = (n + 1) as u8;
+    record[RUNNING_AT] = (n + 1) as u8; // `as`: there was room for one more of 64
 }
 
 // Takes entry k out: those above it move down by one.
@@ -105,5 +106,5 @@ pub(crate) fn remove_entry(record: &mut [u8; RECORD_SIZE], k: usize)
     let end = z + ENTRY_SIZE;
     record.copy_within(a + ENTRY_SIZE..end, a);
     record[z..end].fill(0);
-    record[RUNNING_AT] = last as u8;
+    record[RUNNING_AT] = last as u8; // `as`: less than it was, 64 at most
 }

@@ -61,6 +61,7 @@ fn enter_entry(scratch: &mut [u8; RECORD_SIZE], record: &[u8; RECORD_SIZE], j: u
 }
 
 // Enters all running entries into the scratch record, up to the first that fails a test.
+// By a loop: each step changes the record that the next one enters into, which an `all` would hide in its closure.
 #[tactic(auto, using(crate::specs::Laws::Rebuild::step_refused, crate::specs::Laws::Rebuild::refused_running))]
 fn enter_all(scratch: &mut [u8; RECORD_SIZE], record: &[u8; RECORD_SIZE]) -> bool
     requires { Rebuilt «record».now scratch.old 0 }
@@ -98,6 +99,7 @@ fn is_rebuilt(record: &[u8; RECORD_SIZE]) -> bool
 }
 
 // MODEL 9.1: whether bytes of any length are a sound record.
+// The check by bits (crate soundness) stands beside it: it takes this one's place in a change of its own, as this one's contracts and laws go then (decision 83).
 pub fn sound(record: &[u8]) -> bool
     ensures { result ≡ sound «record».now }
 {

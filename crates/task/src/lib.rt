@@ -43,6 +43,7 @@ pub enum TaskFault {
 }
 
 // MODEL 6.1: where a task is placed: its first block's column, and what its blocks are moved up by.
+// It stands beside its task in what places one: a placed task as a type of its own would be made at each call and taken apart in it.
 #[derive(Clone, Copy)]
 pub struct Position {
     pub column: usize,
@@ -158,6 +159,7 @@ impl<'a> Task<'a> {
 }
 
 // MODEL 4.9: a signed bottom or top plus REACH.
+// In two bytes without a sign: the sum is never negative, and through an i16 it would be converted twice more.
 #[tactic(auto, unfolding(model::specs::Tasks::lifted))]
 fn lift(v: u32) -> u32
     requires { v < words }
@@ -221,6 +223,7 @@ fn starts_at_zero(task: &[u8]) -> bool
 }
 
 // MODEL 4.4: whether a task is well-formed.
+// By the blocks' numbers: each byte block may be no block, and neighbours taken in pairs would be read twice.
 #[tactic(auto, using(crate::specs::Laws::Tasks::ill_start, crate::specs::Laws::Tasks::all_tested), unfolding(model::specs::Tasks::blocks))]
 pub fn well_formed(task: &[u8]) -> bool
     ensures { result ≡ well_formed task.now }
@@ -245,6 +248,7 @@ pub fn well_formed(task: &[u8]) -> bool
 }
 
 // MODEL 10.1: the step of a task.
+// Two flags of one loop: an `any` for each would go over the blocks twice.
 #[tactic(auto, unfolding(model::specs::Tasks::blocks, model::specs::Tasks::block, model::specs::Tasks::step, model::specs::Bounded::any_below))]
 pub fn step(task: &[u8]) -> u32
     ensures { result ≡ step task.now }
