@@ -22,7 +22,7 @@ fn free_part(part: &mut [u8], top: u32)
 }
 
 // Gives column c its kind, and frees all its cells.
-#[tactic(auto, using(model::proofs::Laws::Columns::top_in_le, model::proofs::Laws::Kinds::kind_known, crate::specs::Laws::Checked::known_byte, crate::specs::Laws::Clear::closed_kind, crate::specs::Laws::Clear::open_none, crate::specs::Laws::Clear::open_one), unfolding(model::specs::Record::part, model::specs::Parts::splice))]
+#[tactic(auto, using(model::proofs::Laws::Columns::top_in_le, model::proofs::Laws::Kinds::kind_known, crate::specs::Laws::Checked::known_byte, crate::specs::Laws::Clear::closed_kind, crate::specs::Laws::Clear::open_none, crate::specs::Laws::Clear::lent_closed, crate::specs::Laws::Clear::open_one))]
 fn open_column(record: &mut [u8; RECORD_SIZE], c: usize, rows: u32, kind: u8)
     requires { Closed «record».old c × (rows ≤ max_rows) × (kind ≤ max_kind) }
     ensures { «record».new ≡ put_column (set «record».old (kinds_at + c) kind) c (piece 0 (top_in rows kind) []) }
@@ -37,7 +37,7 @@ fn open_column(record: &mut [u8; RECORD_SIZE], c: usize, rows: u32, kind: u8)
 
 // Writes the record of a new card.
 // Rows and kinds stay apart, here and at `device_ok`: so they come from C and from a record's head, and a struct of both would be made for each call.
-#[tactic(auto, using(crate::specs::Laws::Clear::opened_none, crate::specs::Laws::Clear::opened_closed, crate::specs::Laws::Clear::opened_more, crate::specs::Laws::Clear::opened_all, crate::specs::Laws::Clear::bounds), unfolding(model::specs::Columns::columns, model::specs::Columns::kind))]
+#[tactic(auto, using(crate::specs::Laws::Clear::few_rows, crate::specs::Laws::Clear::few_kinds, crate::specs::Laws::Clear::opened_all), unfolding(model::specs::Columns::columns))]
 pub fn clear(record: &mut [u8; RECORD_SIZE], rows: u32, kinds: &[u8])
     requires { device_ok (record { rows = rows; kinds = kinds.now }) ≡ true }
     ensures { «record».new ≡ record_of (record { rows = rows; kinds = kinds.now }) [] }

@@ -1,6 +1,7 @@
 -- MODEL 12.3: the record of a new card, written byte by byte, zeros, the head, and then one column after the other. Assumes nothing.
-use Rattle.std.specs.Prelude.{ℕ, suc, ◌+◌, ◌/◌, ◌%◌, ◌≤◌, ◌<◌, ◌≡◌, true, ltb, get_or, set, replicate}
+use Rattle.std.specs.Prelude.{ℕ, suc, ◌+◌, ◌-◌, ◌/◌, ◌%◌, ◌≤◌, ◌<◌, ◌≡◌, true, ltb, get_or, set, replicate}
 use Rattle.std.proofs.Math.Path.{refl}
+use borrow.Rule.Slice.PartMut.{mid_of, put_mid}
 use Rattle.std.proofs.Common.{sym, ap, ◌∙◌, inl, arith, length-set, get_or-set_other}
 use mathlib.Core.List.{List, [], ◌∷◌}
 use Rattle.std.proofs.Math.ListN.{length}
@@ -13,12 +14,12 @@ use Rattle.model.specs.Limits.{max_rows, max_columns, max_kind, record_size, col
 use Rattle.model.specs.Columns.{Device, columns, kind, top_in, top, device_ok}
 use Rattle.model.specs.Book.{free, held, intervals}
 use Rattle.model.specs.Bounded.{any_in}
-use Rattle.model.specs.Record.{bytes16, interval_bytes, head_bytes, column_part, entry_part, record_of, column_at, entry_at}
+use Rattle.model.specs.Record.{bytes16, interval_bytes, head_bytes, part, column_part, entry_part, record_of, column_at, entry_at}
 use Rattle.model.specs.Parts.{splice}
 use Rattle.model.specs.InPlace.{Reads, put_column}
 use Rattle.model.proofs.Laws.Clauses.{Zero}
 use Rattle.model.proofs.Laws.WriteBack.{zero_part}
-use Rattle.model.proofs.Laws.Limits.{limits_to, kind_le}
+use Rattle.model.proofs.Laws.Limits.{Limits, limits_to, kind_le}
 use Rattle.model.proofs.Laws.Kept.{within_new}
 use Rattle.model.proofs.Laws.Split.{free_of}
 use Rattle.model.proofs.Laws.Changed.{upto, upto_none, upto_step, upto_out, upto_is}
@@ -54,9 +55,18 @@ unfolding put_column
 open_none r c top x h =
     rw (piece_none 0 top [] (omega arith), ← x.part_is, splice_same r (column_at c) column_size, ← x.count_is) (sym (set-get_or r (counts_at + c) 0))
 
-pub open_one : (r q : List ℕ) (c top : ℕ) → 1 ≤ top → q ≡ column_part (interval 0 top ∷ []) → set (splice r (column_at c) column_size q) (counts_at + c) 1 ≡ put_column r c (piece 0 top [])
-unfolding put_column
-open_one r q c top h e = rw (piece_some 0 top [] h, e)
+-- its part is lent from a to e
+module _ (r : List ℕ) (c a e : ℕ) (start : a ≡ column_at c) (end : e ≡ column_at c + column_size) where
+  size : e - a ≡ column_size
+  size = omega arith
+
+  pub lent_closed : (k : ℕ) → Closed r c → mid_of a (e - a) (set r (kinds_at + c) k) ≡ column_part []
+  unfolding part
+  lent_closed k x = rw (size, start) (closed_kind r c k x).part_is
+
+  pub open_one : (q : List ℕ) (top : ℕ) → 1 ≤ top → q ≡ column_part (interval 0 top ∷ []) → set (put_mid a (e - a) r q) (counts_at + c) 1 ≡ put_column r c (piece 0 top [])
+  unfolding put_column splice
+  open_one q top h i = rw (size, start, piece_some 0 top [] h, i)
 
 -- ---- the free intervals of a new card
 
@@ -147,10 +157,17 @@ opened_all d r x =
 
 -- ---- what the limits of a device say
 
-pub record Bounds (d : Device) : Type 0 where
-  pub rows : d.rows ≤ max_rows
-  pub few : columns d ≤ max_columns
-  pub kinds : (c : ℕ) → kind d c ≤ max_kind
+module _ (n : ℕ) (ks : List ℕ) (h : device_ok (record { rows = n; kinds = ks }) ≡ true) where
+  limits_of : Limits (record { rows = n; kinds = ks }) []
+  limits_of = limits_to (record { rows = n; kinds = ks }) [] (within_new (record { rows = n; kinds = ks }) h)
 
-pub bounds : (d : Device) → device_ok d ≡ true → Bounds d
-bounds d h = let l = limits_to d [] (within_new d h) in record { rows = l.rows; few = l.columns; kinds = kind_le d [] l }
+  pub few_rows : n ≤ max_rows
+  few_rows = limits_of.rows
+
+  pub few_kinds : length ks ≤ max_columns
+  unfolding columns
+  few_kinds = limits_of.columns
+
+  pub small_kind : (c : ℕ) → get_or ks c 0 ≤ max_kind
+  unfolding kind
+  small_kind c = kind_le (record { rows = n; kinds = ks }) [] limits_of c

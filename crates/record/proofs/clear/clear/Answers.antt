@@ -1,18 +1,8 @@
--- `record::clear::clear`: zeros, the head, and then one column after the other (`opened_none`, `opened_more`, `opened_all`). Assumes nothing.
+-- `record::clear::clear`: zeros, the head, and then one column after the other (`opened_none`, `opened_more`). Assumes nothing.
 use Rattle.std.proofs.Common.{refl, arith, add-one}
 use Rattle.model.specs.Columns.{columns, kind}
-use Rattle.record.specs.Laws.Clear.{opened_none, opened_closed, opened_more, bounds}
+use Rattle.record.specs.Laws.Clear.{opened_none, opened_closed, opened_more, few_rows, few_kinds, small_kind}
 use Rattle.record.proofs.clear.clear.Goals as goal
-
-pub put16-requires : goal.put16-requires
-unfolding columns
-put16-requires c =
-    let b = bounds _ c.requires in omega arith
-
-pub overflow_cast-record : goal.overflow_cast-record
-unfolding columns
-overflow_cast-record c =
-    let b = bounds _ c.requires in omega arith
 
 pub loop-c-init : goal.loop-c-init
 unfolding columns
@@ -21,11 +11,11 @@ loop-c-init c = opened_none _ c.args.record.now _ _ (omega arith) (c.fill.ensure
 pub open_column-requires : goal.open_column-requires
 unfolding columns kind
 open_column-requires c =
-    let b = bounds _ c.requires in
-    (opened_closed _ _ _ c.loop-c.invariant (omega arith), b.rows, b.kinds c.loop-c.c)
+    let q = few_kinds _ _ c.requires in
+    (opened_closed _ _ _ c.loop-c.invariant (omega arith), few_rows _ _ c.requires, small_kind _ _ c.requires c.loop-c.c)
 
 pub loop-c-preserved : goal.loop-c-preserved
 unfolding columns kind
 loop-c-preserved c =
-    let b = bounds _ c.requires in
+    let q = few_kinds _ _ c.requires in
     rw (c.open_column.ensures, add-one) (opened_more _ _ _ c.loop-c.invariant (omega arith) _ refl (omega arith))
