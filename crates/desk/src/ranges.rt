@@ -37,12 +37,10 @@ fn print_ranges<const N: usize>(listing: &[u8], count: u16, number: u32, out: &m
 
 impl Desk {
     // The draft's ranges, or the refusal.
-    pub(crate) fn list<const N: usize>(&mut self, number: u32, out: &mut ArrayString<N>)
+    pub(crate) fn list<const N: usize>(&self, number: u32, out: &mut ArrayString<N>)
         requires room { output_room ≤ N }
         requires empty { out.old.bytes ≡ [] }
-        ensures same_card { self.new.card ≡ self.old.card }
-        ensures same_draft { self.new.draft.bytes.items ≡ self.old.draft.bytes.items }
-        ensures shows { out.new.bytes ≡ (on_call number (desk_of self.old.card self.old.draft.bytes.items) list_draft).printed }
+        ensures { out.new.bytes ≡ (on_call number (desk_of self.now.card self.now.draft.bytes.items) list_draft).printed }
     {
         let mut listing = [0u8; LIST_ROOM];
         match card::list(&self.card, self.draft.bytes.as_slice(), &mut listing) {

@@ -23,7 +23,7 @@ pub returns-in-Empty : goal.returns-in-Empty
 returns-in-Empty g c = rw (c.in-Empty.is, c.clear.ensures, c.requires.empty) (leaves_emptied _ c.args.self.now.is_card _ _)
 
 pub returns-in-List : goal.returns-in-List
-returns-in-List g c = let x = c.list.ensures in rw (c.in-List.is, x.same_card, x.same_draft) (leaves_listed _ c.args.self.now.is_card _ _ x.shows)
+returns-in-List g c = rw c.in-List.is (leaves_listed _ c.args.self.now.is_card _ _ c.list.ensures)
 
 pub returns-in-Choose : goal.returns-in-Choose
 unfolding on_call
