@@ -30,7 +30,7 @@ unfolding on_call
 returns-in-Choose g c =
     let number : c.answer.result ≡ answer_by position_of c.choose.result = search rules in
     rw (c.in-Choose.is, c.say-in-Choose.ensures, c.requires.empty, to_z-of_z {w = w32} (record { sfits = c.answer.type_inv }), number)
-    (leaves_answered _ c.args.self.now.is_card _ _ (choose _) _ c.choose.ensures)
+    (leaves_answered _ c.args.self.now.is_card _ c.args.self.now.draft.bytes.items (choose _) _ c.choose.ensures)
 
 pub returns-in-Place : goal.returns-in-Place
 unfolding on_call
@@ -39,7 +39,7 @@ returns-in-Place g c =
     let bottom = to_z-of_z {w = w16} {z = c.in-Place.bottom} (record { sfits = search rules }) in
     let number : c.answer-in-Place.result ≡ answer_by (λ _. pos 0) c.place.result = search rules in
     rw (c.in-Place.is, x.same_draft, c.say-in-Place.ensures, c.requires.empty, to_z-of_z {w = w32} (record { sfits = c.answer-in-Place.type_inv }), number)
-    (leaves_answered _ c.args.self.now.is_card _ _ (place _ _ _ _) _ (rw bottom at x.answers))
+    (leaves_answered _ c.args.self.now.is_card _ c.args.self.now.draft.bytes.items (place _ _ _ _) _ (rw bottom at x.answers))
 
 pub returns-in-Release : goal.returns-in-Release
 unfolding on_call
@@ -47,4 +47,4 @@ returns-in-Release g c =
     let x = c.release.ensures in
     let number : c.answer-in-Release.result ≡ answer_by (λ _. pos 0) c.release.result = search rules in
     rw (c.in-Release.is, x.same_draft, c.say-in-Release.ensures, c.requires.empty, to_z-of_z {w = w32} (record { sfits = c.answer-in-Release.type_inv }), number)
-    (leaves_answered _ c.args.self.now.is_card _ _ (release _) _ x.answers)
+    (leaves_answered _ c.args.self.now.is_card _ c.args.self.now.draft.bytes.items (release _) _ x.answers)
