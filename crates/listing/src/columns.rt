@@ -8,7 +8,7 @@ ghost use Rattle.listing.specs.Columns.{On, OnEach, FirstStanding, AllStanding, 
 
 use crate::run::{Run, Runs};
 use crate::walk::meet_block;
-use crate::{LIFT, MAX_RUNS};
+use crate::LIFT;
 use record::checked::SoundRecord;
 use std::mem;
 use task::Task;

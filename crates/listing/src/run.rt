@@ -25,6 +25,18 @@ impl Model for Run {
     ghost inverse = { λ r. record { first = r.first; last = r.last } };
 }
 
+// The run of a range, whose step is its list's.
+impl From<Range> for Run {
+    ghost from_gives = { λ r q. q ≡ run r.first r.last };
+
+    fn from(r: Range) -> Run {
+        Run {
+            first: r.first,
+            last: r.last,
+        }
+    }
+}
+
 impl Run {
     // The run in the steps of its list.
     pub fn in_steps(self, step: u32) -> Range
@@ -46,14 +58,15 @@ pub struct Runs {
 }
 
 impl Model for Runs {
-    ghost use Rattle.std.specs.Prelude.{◌≡◌, ◌≤◌, List, length, take};
+    ghost use Rattle.std.specs.Prelude.{◌≤◌, List, take};
     ghost use Rattle.runs.specs.Runs.{Run as ModelRun};
+    ghost use Rattle.listing.specs.Lists.{max_runs};
 
     ghost Value = { List ModelRun };
 
     ghost view = { λ l. take l.count l.runs };
 
-    ghost invariant = { λ l. (l.count ≤ 64) × (length l.runs ≡ 64) };
+    ghost invariant = { λ l. l.count ≤ max_runs };
 }
 
 impl Runs {
@@ -111,10 +124,7 @@ impl Runs {
                 ..end
             };
         } else {
-            self.append(Run {
-                first: r.first,
-                last: r.last,
-            });
+            self.append(Run::from(r));
         }
     }
 

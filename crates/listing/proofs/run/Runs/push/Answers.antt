@@ -15,4 +15,4 @@ append-requires c =
     omega (arith, rw (← behind, length-append) at c.requires.fits)
 
 pub returns-else-goes_on : goal.returns-else-goes_on
-returns-else-goes_on c = c.append.ensures ∙ apart c.args.r.step (run c.args.r.first c.args.r.last) c.args.self.now _ c.goes_on.ensures c.if-goes_on.false
+returns-else-goes_on c = c.append.ensures ∙ rw c.from.ensures (apart c.args.r.step (run c.args.r.first c.args.r.last) c.args.self.now _ c.goes_on.ensures c.if-goes_on.false)
