@@ -32,6 +32,7 @@ struct Search<'a> {
 }
 
 // How far up the next bottom to score is: the room, rounded up to whole steps, and one step at least.
+#[tactic(auto, using(crate::specs::Laws::Climbs::rise_is))]
 fn rise(room: u32, step: u32) -> u32
     requires { (room < words) × Step step }
     ensures { Rises room step result }
@@ -41,6 +42,7 @@ fn rise(room: u32, step: u32) -> u32
 
 impl Search<'_> {
     // The better of the best so far and the bottoms of a range.
+    #[tactic(auto, using(crate::specs::Laws::Climbs::range_step, crate::specs::Laws::Climbs::rise_pos, crate::specs::Laws::Climbs::bottom_small))]
     fn climb_range(self, column: usize, range: Range, mut best: Option<Choice>) -> Option<Choice>
         requires { FitsRange (device_of self.record.bytes.now) (book_of self.record.bytes.now) self.task.bytes.now column range }
         ensures { Climbed (judge (device_of self.entry.record.bytes.now) (book_of self.entry.record.bytes.now) self.entry.task.bytes.now) column range.first (suc range.last) best result }
@@ -61,6 +63,7 @@ impl Search<'_> {
     }
 
     // The better of the best so far and all positions of a column.
+    #[tactic(auto, using(crate::specs::Laws::Columns::passed_all))]
     fn climb_column(
         self,
         column: usize,
@@ -79,6 +82,7 @@ impl Search<'_> {
 }
 
 // MODEL 11.5: the choice for a task, or nothing where it fits at no position.
+#[tactic(auto, using(listing::specs::Laws::Column::given_of, crate::specs::Laws::Columns::best_none, crate::specs::Laws::Columns::best_next, crate::specs::Laws::Columns::chooses))]
 pub fn best_position(record: SoundRecord, task: Task) -> Option<Choice>
     ensures { Chooses (device_of «record».entry.bytes.now) (book_of «record».entry.bytes.now) task.entry.bytes.now result }
 {

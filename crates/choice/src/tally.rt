@@ -50,11 +50,8 @@ impl Place {
         ensures home { result ≡ home_of (free_in «record».entry.bytes.now) self }
         ensures housed { Housed self.rows result.rows }
     {
-        let found = record.column(self.column).holder(self.rows);
-        Place {
-            column: self.column,
-            rows: found.unwrap(),
-        }
+        let rows = record.column(self.column).holder(self.rows).unwrap();
+        Place { rows, ..self }
     }
 
     // Is this home that of the next block too? The blocks in it are lower, or in another column.
@@ -117,6 +114,7 @@ impl Tally {
     }
 
     // One block more, in the home of the last one or in the one that a search finds.
+    #[tactic(auto, using(crate::specs::Laws::Homes::housed))]
     fn add_block(&mut self, record: SoundRecord, block: Place)
         requires addable { Addable (free_in «record».bytes.now) self.old.rating block }
         requires home_is { shared self.old.last block ≡ true → self.old.last ≡ home_of (free_in «record».bytes.now) block }
@@ -137,6 +135,7 @@ impl Tally {
 }
 
 // MODEL 11.2 and 11.3: the score of a position at which the task fits.
+#[tactic(auto, using(model::proofs::Laws::Tasks::sized_to))]
 pub fn score_at(record: SoundRecord, task: Task, at: Position) -> Rating
     requires { fits (device_of «record».bytes.now) (book_of «record».bytes.now) task.bytes.now at.column at.bottom ≡ true }
     ensures { Scored (device_of «record».entry.bytes.now) (book_of «record».entry.bytes.now) task.entry.bytes.now at.column at.bottom result }

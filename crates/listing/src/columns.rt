@@ -6,9 +6,9 @@ ghost use Rattle.model.specs.Record.{device_of, book_of};
 ghost use Rattle.listing.specs.Lists.{max_runs};
 ghost use Rattle.listing.specs.Columns.{On, OnEach, FirstStanding, AllStanding, ranges_in};
 
+use crate::LIFT;
 use crate::run::{Run, Runs};
 use crate::walk::meet_block;
-use crate::LIFT;
 use record::checked::SoundRecord;
 use std::mem;
 use task::Task;
@@ -99,6 +99,7 @@ impl InColumn<'_> {
     }
 
     // MODEL 10.4: the ranges of the task.
+    #[tactic(auto, using(crate::specs::Laws::Column::given_of, crate::specs::Laws::Column::ranged, crate::specs::Laws::Column::ranged_none))]
     fn ranges(self, room: &mut Room) -> &[Run]
         ensures few { length result.now ≤ max_runs }
         ensures ranges { result.now ≡ ranges_in (device_of self.entry.record.bytes.now) (book_of self.entry.record.bytes.now) self.entry.task.bytes.now self.entry.p }

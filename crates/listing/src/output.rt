@@ -22,6 +22,7 @@ struct Place {
 }
 
 // MODEL 10.6: writes a range as number n of the output.
+#[tactic(auto, using(crate::specs::Laws::Output::range_written))]
 fn write_range(output: &mut [u8], n: usize, at: Place, run: Run)
     requires { Writable (length output.old) n run }
     ensures { output.new ≡ splice output.old (range_size * n) range_size (range_bytes (range_of at.column at.step run)) }
@@ -44,6 +45,7 @@ fn write_ranges(output: &mut [u8], n: usize, at: Place, runs: &[Run])
 }
 
 // MODEL 12.6: writes all ranges of the task, by rising column. The answer (MODEL 12.1 and 13.7) is how many, or none where no position fits.
+#[tactic(auto, using(model::proofs::Laws::Steps::step_bounds, model::proofs::Laws::Tasks::sized_to, crate::specs::Laws::Column::given_of, crate::specs::Laws::Output::all_writable))]
 pub fn list(record: SoundRecord, task: Task, output: &mut [u8]) -> Option<u16>
     requires { list_room ≤ length output.old }
     ensures { Answers result (device_of «record».entry.bytes.now) (book_of «record».entry.bytes.now) task.entry.bytes.now output.old output.new }

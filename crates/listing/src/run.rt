@@ -112,6 +112,7 @@ impl Runs {
     }
 
     // Puts a range at the end: as one run with the last of them, where it goes on one step above its end.
+    #[tactic(auto, using(crate::specs::Laws::Lists::apart, crate::specs::Laws::Lists::room_apart))]
     pub fn push(&mut self, r: Range)
         requires { Pushable self.old r }
         ensures { self.new ≡ push r.step (run r.first r.last) self.old }

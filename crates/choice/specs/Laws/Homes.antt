@@ -46,7 +46,7 @@ module _ (r : List ℕ) (s : sound r ≡ true) (b : Place) (g : Stands (interval
       (held_holder b.rows.bottom b.rows.top 0 L g.full (column_free (device_of r) (book_of r) b.column).canon g.held)
 
   -- it ends inside its home
-  pub housed : (h : Place) → h ≡ home_of (intervals (device_of r) (book_of r)) b → Housed b.rows h.rows
+  pub housed : (h : Rows) → h ≡ (home_of (intervals (device_of r) (book_of r)) b).rows → Housed b.rows h
   unfolding L
   housed i e =
       let d = device_of r in

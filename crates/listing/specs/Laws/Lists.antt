@@ -3,7 +3,7 @@ use Rattle.std.specs.Prelude.{ℕ, zero, suc, ◌+◌, ◌-◌, ◌*◌, ◌≤�
 use Rattle.std.proofs.lemmas.List.{get_or_default}
 use Rattle.std.proofs.lemmas.Option.{slice_get-get_or, slice_get_past}
 use Rattle.model.proofs.Laws.Bounded.{clash}
-use Rattle.std.proofs.Common.{sym, ap, ◌∙◌, inl, inr, arith, take, length-take, get_or-take, mul-le-mul_left}
+use Rattle.std.proofs.Common.{sym, ap, ◌∙◌, inl, inr, arith, take, length-append, length-take, get_or-take, mul-le-mul_left}
 use Rattle.std.proofs.Math.Seq.{take-set-lt}
 use borrow.Author.Tests.{eq-eqb, ne_eqb}
 use Rattle.runs.specs.Laws.Tests.{lt_or_ge}
@@ -63,6 +63,9 @@ module _ (s : ℕ) (r : Run) where
       let n : length (x ∷ L) - 1 ≡ length L = omega arith in
       let u = slice_get-get_or (x ∷ L) (length L) x (omega arith) in
       push_more (x ∷ L) (length L) (get_or (x ∷ L) (length L) x) refl (get_or_default (x ∷ L) (length L) _ x (omega arith)) (λ h. clash (o.1 (rw (n, u) h)) e)
+
+  pub room_apart : (L : List Run) (b : Bool) → (b ≡ true) ↔ GoesOn L → b ≡ false → length L < length (push s r L)
+  room_apart L b o e = rw (← apart L b o e, length-append) (omega arith)
 
 -- ---- the runs of a list, one after the other
 

@@ -1,5 +1,5 @@
 -- Answers of `choice::Search::climb_column`.
-use Rattle.choice.specs.Laws.Columns.{passed_none, range_read, range_fits, passed_next, passed_all}
+use Rattle.choice.specs.Laws.Columns.{passed_none, range_read, range_fits, passed_next}
 use Rattle.choice.proofs.Search.climb_column.Goals as goal
 
 pub loop-run-init : goal.loop-run-init
@@ -16,6 +16,3 @@ loop-run-preserved c =
     let ranges = c.column_ranges-ranges.ensures.ranges in
     let read = range_read c.args.self _ _ _ _ ranges c.loop-run-test.true c.run-item.is in
     passed_next c.args.self _ _ _ (rw ranges at c.loop-run-test.true) read _ c.in_steps.ensures _ _ _ c.loop-run.invariant c.climb_range-best.ensures
-
-pub returns : goal.returns
-returns c = passed_all c.args.self _ _ _ _ (rw c.column_ranges-ranges.ensures.ranges at c.loop-run-test.false) c.loop-run.invariant

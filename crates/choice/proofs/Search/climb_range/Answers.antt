@@ -1,18 +1,6 @@
 -- Answers of `choice::Search::climb_range`.
-use native.Mathlib.Omega.{arith}
-use Rattle.choice.specs.Laws.Climbs.{range_step, rise_pos, bottom_small, climbing_next, climbing_done}
+use Rattle.choice.specs.Laws.Climbs.{climbing_next, climbing_done}
 use Rattle.choice.proofs.Search.climb_range.Goals as goal
-
-pub rise-bottom-requires : goal.rise-bottom-requires
-rise-bottom-requires c = (c.score_at-rating.ensures.room_small, range_step c.args.self _ _ c.requires)
-
-pub overflow_add-bottom : goal.overflow_add-bottom
-overflow_add-bottom c =
-    let y = bottom_small c.args.self _ _ (c.requires.all_fit _ (c.loop-bottom.invariant.steps, c.loop-bottom-test.true)) in
-    omega (arith, c.rise-bottom.ensures.small, c.score_at-rating.ensures.room_small, (range_step c.args.self _ _ c.requires).1)
-
-pub loop-bottom-smaller : goal.loop-bottom-smaller
-loop-bottom-smaller c = omega (arith, c.loop-bottom-test.true, rise_pos c.rise-bottom.ensures (range_step c.args.self _ _ c.requires).0)
 
 pub loop-bottom-preserved : goal.loop-bottom-preserved
 loop-bottom-preserved c =

@@ -6,9 +6,6 @@ use Rattle.choice.specs.Laws.Homes.{on_device}
 use Rattle.choice.specs.Laws.Scores.{block_stands, block_addable, scoring_first, next_shared, scoring_next, scored}
 use Rattle.choice.proofs.tally.score_at.Goals as goal
 
-pub extent-requires : goal.extent-requires
-extent-requires c = some_blocks _ _ (given_of c.args.record c.args.task)
-
 pub new-requires : goal.new-requires
 new-requires c = let a = given_of c.args.record c.args.task in on_device _ _ a _ _ _ c.requires (some_blocks _ _ a) _ c.extent.ensures
 

@@ -1,20 +1,11 @@
 -- Answers of `listing::output::list`.
 use Rattle.std.proofs.Common.{arith}
-use Rattle.model.proofs.Laws.Steps.{step_bounds}
-use Rattle.listing.specs.Laws.Column.{given_of, some_blocks}
-use Rattle.listing.specs.Laws.Output.{written_none, all_writable, written_next, answer_none, answer_some}
+use Rattle.listing.specs.Laws.Column.{given_of}
+use Rattle.listing.specs.Laws.Output.{written_none, written_next, answer_none, answer_some}
 use Rattle.listing.proofs.output.list.Goals as goal
-
-pub overflow_cast-step : goal.overflow_cast-step
-overflow_cast-step c = omega (arith, step_bounds _ (some_blocks _ _ (given_of c.args.record c.args.task)))
 
 pub loop-column-init : goal.loop-column-init
 loop-column-init c = written_none _ _ (given_of c.args.record c.args.task) _ c.requires
-
-pub write_ranges-requires : goal.write_ranges-requires
-write_ranges-requires c =
-    all_writable _ _ (given_of c.args.record c.args.task) _ c.requires _ _ _ c.column_ranges-ranges.ensures.ranges c.column_ranges-ranges.ensures.few
-    _ c.loop-column.invariant (omega arith)
 
 pub loop-column-preserved : goal.loop-column-preserved
 loop-column-preserved c =
