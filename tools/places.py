@@ -48,6 +48,11 @@ def split(text, mark):
     return [part for part in parts + [text[start:]] if part.strip()]
 
 
+def bare(fact):
+    """A fact without the parentheses around all of it."""
+    return bare(fact[1:-1]) if fact.startswith('(') and after(fact, 0) == len(fact) else fact
+
+
 def read(text, found):
     """One function: its parameters with their types, what it answers, and the facts of its clauses."""
     at = found.end()
@@ -64,7 +69,7 @@ def read(text, found):
     while clause:
         at = after(text, clause.end())
         said = text[clause.end() + 1:at - 1]
-        clauses[clause.group(1)] += [' '.join(fact.split()) for fact in split(said, ' × ')]
+        clauses[clause.group(1)] += [bare(' '.join(fact.split())) for fact in split(said, ' × ')]
         clause = CLAUSE.match(text, at)
     owners = [impl.group(1) for impl in IMPL.finditer(text[:found.start()])]
     owner = owners[-1] if owners and text[found.start()] == ' ' else ''
@@ -84,7 +89,7 @@ def facts():
     """Facts of requires clauses; a record and a card are one, and so are a task and a draft."""
     for name, function in functions():
         for fact in function.requires:
-            fact = re.sub(r'«record»\.|\bcard\.', 'record.', fact.strip())
+            fact = re.sub(r'«record»\.|\bcard\.', 'record.', fact)
             yield re.sub(r'\bdraft\.', 'task.', fact), name
 
 
@@ -99,7 +104,7 @@ def facts_by_type():
         types = {parameter[0]: parameter[1].lstrip('&').removeprefix('mut ') for parameter in function.parameters}
         types |= {'self': function.owner, 'result': function.answer, '«record»': types.get('record', 'record')}
         for fact in function.requires + function.ensures:
-            fact = re.sub(r'\.(?:old|new|now|entry)\b', '', fact.strip())
+            fact = re.sub(r'\.(?:old|new|now|entry)\b', '', fact)
             yield re.sub(r'(?<![.\w])«?\w+»?', lambda word: types.get(word.group(), word.group()), fact), name
 
 
