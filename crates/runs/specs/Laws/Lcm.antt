@@ -65,6 +65,9 @@ module _ (a b m : ℕ) (p : 1 ≤ a) (s : Sought a b m) where
   pub lcm_room : ¬ (m % b ≡ 0) → m + a ≤ a * b
   lcm_room h = omega (arith, s.is, mul-le-mul_right {m = suc s.times} {n = b} a (room h), mul_comm a b)
 
+  pub lcm_falls : ¬ (m % b ≡ 0) → a * b - (m + a) < a * b - m
+  lcm_falls h = omega (arith, lcm_room h)
+
   pub lcm_next : ¬ (m % b ≡ 0) → Sought a b (m + a)
   lcm_next h = record {
     times = suc s.times;
