@@ -12,7 +12,7 @@ use model::{INTERVAL_SIZE, INTERVAL_TOP_AT};
 use rewrite::{rewrite, write_cut, write_joined};
 use words::get16;
 
-// MODEL 7.2: the half rows from bottom up to top, top excluded.
+// MODEL 7.2: the half rows from bottom up to top, top excluded. std's Range is no Copy.
 #[derive(Clone, Copy)]
 pub struct Interval {
     pub bottom: u32,

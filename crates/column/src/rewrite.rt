@@ -86,6 +86,7 @@ pub(crate) fn write_cut(column: Column<'_>, run: Interval, left: &mut Draft<'_>)
 }
 
 // A column's intervals with a run joined to them: it is carried on, and grows where it meets the next.
+#[tactic(auto, using(crate::specs::Laws::Writing::join_start, crate::specs::Laws::Writing::join_next))]
 pub(crate) fn write_joined(column: Column<'_>, run: Interval, joined: &mut Draft<'_>)
     requires empty { Holding joined.old.bytes.now joined.old.count [] }
     requires joinable { Joinable run.bottom run.top column.part.now column.count }
