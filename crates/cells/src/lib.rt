@@ -87,7 +87,7 @@ fn change_word(free: u64, carry: u64) -> u64
     free ^ ((free << 1) | carry)
 }
 
-// The highest bit of a word, which is the bit below the next.
+// The highest bit of a word, which is the bit below the next: a number and no bool, since it is or-ed into that.
 #[tactic(auto, using(crate::specs::Laws::Marks::carry_small, crate::specs::Laws::Marks::carry_shows))]
 fn top_bit(word: u64) -> u64
     ensures { (result < 2) × ((f : ℕ → Bool) (a : ℕ) → Shows word f a → is_set result ≡ one_below f (a + word_bits)) }

@@ -166,7 +166,7 @@ impl Kind {
         self.with_height(|height| height)
     }
 
-    // MODEL 3.4: the cells of a column of this kind.
+    // MODEL 3.4: the cells of a column of this kind. Here and at `top` the bound only keeps twice the rows within 32 bits: no type of its own for that.
     pub fn cells(self, rows: u32) -> u32
         requires { rows ≤ max_rows }
         ensures { result ≡ cells_in rows (number_of self) }

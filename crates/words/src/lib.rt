@@ -19,7 +19,7 @@ pub fn get16(s: &[u8], at: usize) -> u32
     u32::from(u16::from_le_bytes([s[at], s[at + 1]]))
 }
 
-// Puts a number into the two bytes at `at`.
+// Puts a number into the two bytes at `at`. A u16 would carry the bound, and ask more of callers.
 #[tactic(auto, using(model::proofs::Laws::Parts::set_two), unfolding(model::specs::Record::bytes16))]
 pub fn put16(s: &mut [u8], at: usize, v: u32)
     requires { (at + 1 < length s.old) × (v < words) }
