@@ -58,7 +58,8 @@ impl Device<'_> {
         c < self.kinds.len() && self.kinds[c] == u8::from(kind)
     }
 
-    // MODEL 6.2 to 6.4: the cells of a block that is moved to a position, where it stands on the grid of a column of its kind.
+    // MODEL 6.2 to 6.4: the cells of a block that is moved to a position, where it stands on the grid of a column of its kind. That the position can
+    // be one of an entry is asked three times: a type for it would be a second `Position`, of which only this crate has need.
     #[tactic(auto, using(crate::specs::Laws::Marks::few_rows, crate::specs::Laws::Marks::off_kind, crate::specs::Laws::Marks::off_grid, crate::specs::Laws::Marks::too_high, crate::specs::Laws::Marks::on_cells))]
     fn cells_of(self, block: Block, at: Position) -> Option<Range<u32>>
         requires device { device_ok (as_device self) ≡ true }

@@ -63,6 +63,7 @@ fn same(a: &[u8], b: &[u8]) -> bool
 
 impl<'a> Legible<'a> {
     // The bytes, where they are legible; else they are no sound record.
+    #[tactic(auto, using(record::specs::Laws::Rebuild::refused_device, record::specs::Laws::Rebuild::refused_running))]
     fn read(bytes: &'a [u8; RECORD_SIZE]) -> Option<Legible<'a>>
         ensures { MatchOption result (sound bytes.now ≡ false) (λ l. l.bytes.now ≡ bytes.now) }
     {
@@ -74,6 +75,7 @@ impl<'a> Legible<'a> {
     }
 
     // Whether the bytes of a range are 0.
+    #[tactic(auto, using(crate::specs::Laws::Unused::zeros_decided))]
     fn zeros(&self, range: Range<usize>) -> bool
         requires some { range.start ≤ range.end }
         requires within { range.end ≤ record_size }
@@ -96,6 +98,7 @@ impl<'a> Legible<'a> {
 
     // MODEL 9.3 to 9.6: marks the cells of running entry j, and says whether it is one of a sound record. Its blocks are read where they stand
     // (MODEL 21.5).
+    #[tactic(auto, using(crate::specs::Laws::Entries::entry_position))]
     fn mark_entry(&self, held: &mut HeldCells, j: usize) -> bool
         requires runs { j < get_or self.now.bytes.now running_at 0 }
         requires tasks { TasksHeld self.now.bytes.now held.old.words j }
@@ -141,6 +144,7 @@ impl<'a> Legible<'a> {
 
 impl Marked<'_> {
     // MODEL 7.3 and 8.3: writes the free intervals of column c into a part of zeros, by its bits, and answers how many they are.
+    #[tactic(auto, using(marks::specs::Laws::Marks::few_rows, model::proofs::Laws::Record::column_part_nil))]
     fn list(&self, c: usize, part: &mut [u8]) -> usize
         requires column { c < length self.now.legible.device.kinds.now }
         requires zeros { part.old ≡ replicate column_size 0 }
@@ -193,6 +197,7 @@ impl Marked<'_> {
 }
 
 // MODEL 9: whether the bytes are a sound record.
+#[tactic(auto, using(crate::specs::Laws::Sound::refused_unused))]
 fn is_sound(record: &[u8; RECORD_SIZE]) -> bool
     ensures { result ≡ sound «record».now }
 {

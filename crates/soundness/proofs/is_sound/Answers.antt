@@ -1,10 +1,6 @@
 -- `soundness::is_sound` meets its contract. Assumes nothing.
-use Rattle.std.proofs.lemmas.Bool.Decides.{not_from_Decides}
-use Rattle.soundness.specs.Laws.Sound.{refused_unused, held_none, judged_sound}
+use Rattle.soundness.specs.Laws.Sound.{held_none, judged_sound}
 use Rattle.soundness.proofs.is_sound.Goals as goal
-
-pub returns-then-not-unused_ok : goal.returns-then-not-unused_ok
-returns-then-not-unused_ok c = rw c.in-Some.ensures at (refused_unused _ (not_from_Decides _ c.unused_ok.ensures c.if-not-unused_ok.true))
 
 pub mark_entries-requires : goal.mark_entries-requires
 mark_entries-requires c = let l = c.in-Some.legible in held_none _ _ (rw l.said at l.whole) c.new-held.ensures

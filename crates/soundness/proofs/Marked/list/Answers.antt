@@ -1,15 +1,11 @@
 -- `soundness::Marked::list` meets its contract. Assumes nothing.
 use Rattle.std.proofs.Common.{sym, ◌∙◌}
-use Rattle.model.proofs.Laws.Record.{column_part_nil}
-use Rattle.marks.specs.Laws.Marks.{few_rows, kind_low}
+use Rattle.marks.specs.Laws.Marks.{kind_low}
 use Rattle.soundness.specs.Laws.Columns.{kind_read, fillable, part_is}
 use Rattle.soundness.proofs.Marked.list.Goals as goal
 
 pub unwrap-kind-requires : goal.unwrap-kind-requires
 unwrap-kind-requires c = kind_read _ c.try_from.ensures (kind_low _ c.args.self.now.legible.whole c.args.c c.requires.column)
-
-pub cells-requires : goal.cells-requires
-cells-requires c = few_rows _ c.args.self.now.legible.whole
 
 pub invariant_of-bits : goal.invariant_of-bits
 invariant_of-bits c =
@@ -17,9 +13,6 @@ invariant_of-bits c =
     let l = s.legible in
     let f = fillable _ _ s.tasks _ l.said c.requires.column _ (sym c.unwrap-kind.ensures ∙ c.try_from.ensures) c.cells.ensures c.height.ensures l.whole c.column.ensures.len in
     record { few = f.few; room = f.room; short = f.short; small = f.small }
-
-pub fill-requires : goal.fill-requires
-fill-requires c = c.requires.zeros ∙ sym column_part_nil
 
 pub returns : goal.returns
 returns c =
