@@ -22,6 +22,7 @@ fn total(record: SoundRecord) -> usize
 }
 
 // Joins what touches in all neighbouring columns. The nodes of a column follow those of the column on its left.
+#[tactic(auto, using(crate::specs::Laws::OnBytes::some_column, crate::specs::Laws::OnBytes::base_few))]
 fn join_all<const N: usize>(forest: &mut Forest<N>, record: SoundRecord) -> u32
     requires { base_of (runs_of «record».bytes.now) (columns_of (device_of «record».bytes.now)) ≤ N }
     ensures { Joins (card_edges (heights (device_of «record».entry.bytes.now)) (runs_of «record».entry.bytes.now) (columns_of (device_of «record».entry.bytes.now))) forest.old.parents forest.new.parents result }

@@ -27,6 +27,7 @@ fn free_in(column: Column) -> u32
 }
 
 // The free cells of column c.
+#[tactic(auto, using(crate::specs::Laws::Free::listed_few, crate::specs::Laws::Free::column_spans))]
 fn column_free(record: SoundRecord, c: usize) -> u32
     requires { c < columns_of (device_of «record».bytes.now) }
     ensures { result ≡ spans (runs_of «record».entry.bytes.now c) }

@@ -1,10 +1,7 @@
 -- Answers of `fragments::connected::join_all`.
 use Rattle.std.proofs.Common.{arith, rules}
-use Rattle.fragments.specs.Laws.OnBytes.{some_column, base_few, walking_start, walking_room, walking_on, walking_end}
+use Rattle.fragments.specs.Laws.OnBytes.{walking_start, walking_room, walking_on, walking_end}
 use Rattle.fragments.proofs.connected.join_all.Goals as goal
-
-pub overflow_sub-c-end : goal.overflow_sub-c-end
-overflow_sub-c-end g c = omega (arith, some_column _ c.args.record.sound, c.columns-c-end.ensures.count)
 
 pub loop-c-init : goal.loop-c-init
 loop-c-init g c = walking_start _ c.args.record.sound _
@@ -13,9 +10,6 @@ pub sweep-joins-requires : goal.sweep-joins-requires
 sweep-joins-requires g c =
     let room = walking_room _ c.args.record.sound _ _ _ _ _ c.loop-c.invariant (omega (arith, c.columns-c-end.ensures.count)) in
     (search rules, omega (arith, room, c.column-left.ensures.count, c.column.ensures.count))
-
-pub overflow_add-base : goal.overflow_add-base
-overflow_add-base g c = omega (arith, base_few _ c.args.record.sound c.loop-c.c (omega arith), c.loop-c.invariant.from, c.column-left.result.listed.few)
 
 pub loop-c-preserved : goal.loop-c-preserved
 loop-c-preserved g c =

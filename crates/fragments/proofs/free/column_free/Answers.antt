@@ -1,7 +1,7 @@
 -- `fragments::free::column_free`: half rows by the height of a cell. Assumes nothing.
 use Rattle.model.proofs.Laws.Columns.{height_pos}
 use Rattle.fragments.specs.Laws.OnBytes.{column_place}
-use Rattle.fragments.specs.Laws.Free.{listed_canon, listed_few, column_spans}
+use Rattle.fragments.specs.Laws.Free.{listed_canon}
 use Rattle.fragments.proofs.free.column_free.Goals as goal
 
 pub column-requires : goal.column-requires
@@ -11,12 +11,5 @@ pub free_in-requires-clause-apart : goal.free_in-requires-clause-apart
 free_in-requires-clause-apart c =
     rw (c.column.ensures.part, c.column.ensures.count) (listed_canon _ c.args.record.sound _ (column_place _ c.args.record.sound _ c.requires).0)
 
-pub free_in-requires-clause-few : goal.free_in-requires-clause-few
-free_in-requires-clause-few c = rw (c.column.ensures.part, c.column.ensures.count) (listed_few _ c.args.record.sound _ c.requires)
-
 pub nonzero_div-result : goal.nonzero_div-result
 nonzero_div-result c = rw c.height.ensures (height_pos _)
-
-pub returns : goal.returns
-returns c =
-    column_spans _ c.args.record.sound _ _ _ c.requires (rw (c.column.ensures.part, c.column.ensures.count) at c.free_in.ensures) (rw c.kind.ensures at c.height.ensures)
