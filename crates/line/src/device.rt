@@ -48,6 +48,7 @@ fn kinds(field: &[u8]) -> Option<ArrayVec<u8, MAX_LINE>>
 }
 
 // MODEL 17.7 and 17.9: the device of a line of two fields. A malformed line has none.
+#[tactic(auto, using(crate::specs::Laws::Device::with_number, crate::specs::Laws::Device::device_long))]
 pub fn device_line(line: &[u8]) -> Option<DeviceLine>
     ensures { Reads (device_line line.now) result }
 {

@@ -5,11 +5,8 @@ use Rattle.line.specs.Device.{items_said}
 use Rattle.line.specs.Laws.Fields.{first, next}
 use Rattle.line.specs.Laws.Numbers.{read}
 use Rattle.line.specs.Laws.Calls.{natural_here}
-use Rattle.line.specs.Laws.Device.{device_long, kinds_here, rows_lost, kinds_lost, two_done, with_number}
+use Rattle.line.specs.Laws.Device.{kinds_here, rows_lost, kinds_lost, two_done, with_number}
 use Rattle.line.proofs.device.device_line.Goals as goal
-
-pub returns-then-line-gt-MAX_LINE : goal.returns-then-line-gt-MAX_LINE
-returns-then-line-gt-MAX_LINE c = with_number None (sym (device_long c.args.line.now c.if-line-gt-MAX_LINE.true))
 
 pub returns-in_err-rows : goal.returns-in_err-rows
 returns-in_err-rows c =
