@@ -22,6 +22,7 @@ fn free_part(part: &mut [u8], top: u32)
 }
 
 // Gives column c its kind, and frees all its cells.
+// The kind is the byte that was given: it is written as it came, and a Kind only where its height is asked for.
 #[tactic(auto, using(model::proofs::Laws::Columns::top_in_le, model::proofs::Laws::Kinds::kind_known, crate::specs::Laws::Checked::known_byte, crate::specs::Laws::Clear::closed_kind, crate::specs::Laws::Clear::open_none, crate::specs::Laws::Clear::lent_closed, crate::specs::Laws::Clear::open_one))]
 fn open_column(record: &mut [u8; RECORD_SIZE], c: usize, rows: u32, kind: u8)
     requires { Closed «record».old c × (rows ≤ max_rows) × (kind ≤ max_kind) }

@@ -13,7 +13,6 @@ use model::{COUNTS_AT, RECORD_SIZE};
 use task::{Block, Position};
 
 // Edits the column in which a block stands: `edit` is lent its part (MODEL 21.5), with its count, for the block's run, and answers the new count.
-#[tactic(auto, unfolding(model::specs::Record::part, model::specs::Parts::splice))]
 pub(crate) fn edit_block<F: FnOnce(&mut [u8], usize, Interval) -> usize>(
     record: &mut [u8; RECORD_SIZE],
     block: Block,

@@ -13,7 +13,7 @@ use column::join;
 use model::RECORD_SIZE;
 
 // Frees the cells of the task of entry j. Its blocks are read where they stand, in the record.
-#[tactic(auto, using(crate::proofs::Laws::Leave::entry_on, crate::proofs::Laws::Leave::has_task, crate::proofs::Laws::Leave::freeing_first, crate::proofs::Laws::Leave::task_stays))]
+#[tactic(auto, using(crate::proofs::Laws::Leave::has_task, crate::proofs::Laws::Leave::freeing_first))]
 fn free_blocks(record: &mut [u8; RECORD_SIZE], j: usize)
     requires { Runs «record».old j }
     ensures { «record».new ≡ freed_entry «record».old j }

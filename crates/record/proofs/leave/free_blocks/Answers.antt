@@ -7,11 +7,14 @@ use Rattle.model.specs.Sound.{count_of}
 use Rattle.column.specs.Part.{Changed}
 use Rattle.task.specs.Blocks.{rows_of}
 use Rattle.record.specs.Laws.Columns.{put_changed}
-use Rattle.record.proofs.Laws.Leave.{entry_on, on_task, seated, join_room, block_freed, all_freed}
+use Rattle.record.proofs.Laws.Leave.{entry_on, task_stays, on_task, seated, join_room, block_freed, all_freed}
 use Rattle.record.proofs.leave.free_blocks.Goals as goal
 
 pub invariant_of-entry : goal.invariant_of-entry
 invariant_of-entry c = record { room = entry_on _ _ c.requires }
+
+pub task-requires-in-loop-k : goal.task-requires-in-loop-k
+task-requires-in-loop-k c = task_stays _ _ _ _ _ _ _ c.requires c.fits-record c.loop-k.invariant
 
 pub block-block-requires : goal.block-block-requires
 block-block-requires c = on_task _ _ _ _ _ _ _ c.requires c.fits-record c.loop-k.invariant (omega arith) _ c.task-in-loop-k.ensures
