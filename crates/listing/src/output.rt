@@ -1,5 +1,5 @@
 // MODEL 10.5 and 12.6: the whole listing, the ranges of all columns, written to the output.
-ghost use Rattle.std.specs.Prelude.{◌≡◌, ◌*◌, ◌≤◌, length};
+ghost use Rattle.std.specs.Prelude.{◌≡◌, ◌+◌, ◌*◌, ◌≤◌, length};
 ghost use Rattle.runs.specs.Runs.{run};
 ghost use Rattle.model.specs.Limits.{range_size, list_room};
 ghost use Rattle.model.specs.Listing.{range_of};
@@ -21,31 +21,45 @@ struct Place {
     step: u8,
 }
 
-// MODEL 10.6: writes a range as number n of the output.
-#[tactic(auto, using(crate::specs::Laws::Output::range_written))]
-fn write_range(output: &mut [u8], n: usize, at: Place, run: Run)
-    requires { Writable (length output.old) n run }
-    ensures { output.new ≡ splice output.old (range_size * n) range_size (range_bytes (range_of at.column at.step run)) }
-{
-    let start = model::RANGE_SIZE * n;
-    output[start] = at.column;
-    output[start + model::RANGE_STEP_AT] = at.step;
-    put16(output, start + model::RANGE_FIRST_AT, run.first);
-    put16(output, start + model::RANGE_LAST_AT, run.last);
+// The output of a listing, and how many ranges stand in it. The clauses `same_output` say that it stays the one that `list` was lent.
+#[derive(Drop)]
+struct Listing<'a> {
+    output: &'a mut [u8],
+    count: usize,
 }
 
-// Writes the ranges of a column as numbers n and up of the output.
-fn write_ranges(output: &mut [u8], n: usize, at: Place, runs: &[Run])
-    requires { AllWritable (length output.old) n runs.now }
-    ensures { output.new ≡ splice output.old (range_size * n) (range_size * length runs.now) (column_bytes at.column at.step runs.now) }
-{
-    for (i, run) in runs.iter().enumerate() {
-        write_range(output, n + i, at, *run);
+impl Listing<'_> {
+    // MODEL 10.6: writes a range behind those that are there.
+    #[tactic(auto, using(crate::specs::Laws::Output::range_written))]
+    fn push(&mut self, at: Place, run: Run)
+        requires { Writable (length self.old.output.now) self.old.count run }
+        ensures bytes { self.new.output.now ≡ splice self.old.output.now (range_size * self.old.count) range_size (range_bytes (range_of at.column at.step run)) }
+        ensures count { self.new.count ≡ self.old.count + 1 }
+        ensures same_output { self.new.output.ghost_name ≡ self.old.output.ghost_name }
+    {
+        let start = model::RANGE_SIZE * self.count;
+        self.output[start] = at.column;
+        self.output[start + model::RANGE_STEP_AT] = at.step;
+        put16(self.output, start + model::RANGE_FIRST_AT, run.first);
+        put16(self.output, start + model::RANGE_LAST_AT, run.last);
+        self.count += 1;
+    }
+
+    // Writes the ranges of a column.
+    fn extend(&mut self, at: Place, runs: &[Run])
+        requires { AllWritable (length self.old.output.now) self.old.count runs.now }
+        ensures bytes { self.new.output.now ≡ splice self.old.output.now (range_size * self.old.count) (range_size * length runs.now) (column_bytes at.column at.step runs.now) }
+        ensures count { self.new.count ≡ self.old.count + length runs.now }
+        ensures same_output { self.new.output.ghost_name ≡ self.old.output.ghost_name }
+    {
+        for run in runs {
+            self.push(at, *run);
+        }
     }
 }
 
 // MODEL 12.6: writes all ranges of the task, by rising column. The answer (MODEL 12.1 and 13.7) is how many, or none where no position fits.
-#[tactic(auto, using(model::proofs::Laws::Steps::step_bounds, model::proofs::Laws::Tasks::sized_to, crate::specs::Laws::Column::given_of, crate::specs::Laws::Output::all_writable))]
+#[tactic(auto, using(model::proofs::Laws::Steps::step_bounds, model::proofs::Laws::Tasks::sized_to))]
 pub fn list(record: SoundRecord, task: Task, output: &mut [u8]) -> Option<u16>
     requires { list_room ≤ length output.old }
     ensures { Answers result (device_of «record».entry.bytes.now) (book_of «record».entry.bytes.now) task.entry.bytes.now output.old output.new }
@@ -53,16 +67,15 @@ pub fn list(record: SoundRecord, task: Task, output: &mut [u8]) -> Option<u16>
     let mut room = Room::new();
     // A step is at most 10, and a column below 64: each fits its byte.
     let step = task.step() as u8;
-    let mut n: usize = 0;
+    let mut listing = Listing { output, count: 0 };
     for column in 0..record.columns() {
         let ranges = column_ranges(record, task, column, &mut room);
         let column = column as u8;
-        write_ranges(output, n, Place { column, step }, ranges);
-        n += ranges.len();
+        listing.extend(Place { column, step }, ranges);
     }
-    if n == 0 {
+    if listing.count == 0 {
         return None;
     }
     // At most 64 ranges in each of at most 64 columns.
-    Some(n as u16)
+    Some(listing.count as u16)
 }

@@ -191,17 +191,17 @@ module _ (r t : List ℕ) (g : Given r t) (o₀ : List ℕ) (big : list_room ≤
   length_none [] e = refl
   length_none (q ∷ K) e = absurd (omega arith)
 
-  pub answer_none : (p n : ℕ) (o : List ℕ) → columns (device_of r) ≤ p → Written r t o₀ p n o → n ≡ 0 → Answers None (device_of r) (book_of r) t o₀ o
+  pub answer_none : (p n : ℕ) (o o' : List ℕ) → o' ≡ o → columns (device_of r) ≤ p → Written r t o₀ p n o → n ≡ 0 → Answers None (device_of r) (book_of r) t o₀ o'
   unfolding join_in
-  answer_none p n o l w z =
+  answer_none p n o o' i l w z =
       let e = whole p n o l w in
       let none : ranges_below r t p ≡ [] = length_none (ranges_below r t p) (sym w.count ∙ z) in
       let q = nowhere ((ranges_none_iff (device_of r) (book_of r) t (some_blocks r t g)).0 (sym e ∙ none)) in
-      record { answer_is = rw q; output_is = rw q (w.bytes ∙ rw none (over_is [] o₀ ∙ splice_none o₀ 0)) }
+      record { answer_is = rw q; output_is = rw q (i ∙ w.bytes ∙ rw none (over_is [] o₀ ∙ splice_none o₀ 0)) }
 
-  pub answer_some : (p n : ℕ) (o : List ℕ) → columns (device_of r) ≤ p → Written r t o₀ p n o → (n ≡ 0 → ⊥) → Answers (Some n) (device_of r) (book_of r) t o₀ o
-  answer_some p n o l w h =
+  pub answer_some : (p n : ℕ) (o o' : List ℕ) → o' ≡ o → columns (device_of r) ≤ p → Written r t o₀ p n o → (n ≡ 0 → ⊥) → Answers (Some n) (device_of r) (book_of r) t o₀ o'
+  answer_some p n o o' i l w h =
       let e = whole p n o l w in
       let some = is_false (no_position (device_of r) (book_of r) t) (λ z. h (w.count ∙ ap length (e ∙ (ranges_none_iff (device_of r) (book_of r) t (some_blocks r t g)).1 z))) in
       let q = list_done (device_of r) (book_of r) t g.sized g.formed o₀ big some in
-      record { answer_is = rw q (ap pos (w.count ∙ ap length e)); output_is = rw q (w.bytes ∙ rw e) }
+      record { answer_is = rw q (ap pos (w.count ∙ ap length e)); output_is = rw q (i ∙ w.bytes ∙ rw e) }

@@ -1,21 +1,30 @@
 -- Answers of `listing::output::list`.
-use Rattle.std.proofs.Common.{arith}
+use Rattle.std.proofs.Common.{refl, ◌∙◌, arith, rules}
 use Rattle.listing.specs.Laws.Column.{given_of}
-use Rattle.listing.specs.Laws.Output.{written_none, written_next, answer_none, answer_some}
+use Rattle.listing.specs.Laws.Output.{written_none, all_writable, written_next, answer_none, answer_some}
 use Rattle.listing.proofs.output.list.Goals as goal
 
 pub loop-column-init : goal.loop-column-init
-loop-column-init c = written_none _ _ (given_of c.args.record c.args.task) _ c.requires
+loop-column-init c = record { written = written_none _ _ (given_of c.args.record c.args.task) _ c.requires; same_output = refl }
+
+pub extend-requires : goal.extend-requires
+extend-requires c =
+    all_writable _ _ (given_of c.args.record c.args.task) _ c.requires _ _ _ c.column_ranges-ranges.ensures.ranges c.column_ranges-ranges.ensures.few
+    _ c.loop-column.invariant.written (omega arith)
 
 pub loop-column-preserved : goal.loop-column-preserved
-loop-column-preserved c =
-    written_next _ _ (given_of c.args.record c.args.task) _ c.requires _ _ _ c.column_ranges-ranges.ensures.ranges c.column_ranges-ranges.ensures.few
-    _ c.loop-column.invariant (omega arith) _ c.step-step.ensures _ c.write_ranges.ensures
+loop-column-preserved c = record {
+  written =
+      rw c.extend.ensures.count
+      (written_next _ _ (given_of c.args.record c.args.task) _ c.requires _ _ _ c.column_ranges-ranges.ensures.ranges c.column_ranges-ranges.ensures.few
+      _ c.loop-column.invariant.written (omega arith) _ c.step-step.ensures _ c.extend.ensures.bytes);
+  same_output = c.extend.ensures.same_output ∙ c.loop-column.invariant.same_output;
+}
 
-pub returns-then-n-eq0 : goal.returns-then-n-eq0
-returns-then-n-eq0 c =
-    answer_none _ _ (given_of c.args.record c.args.task) _ c.requires _ _ _ (omega arith) c.loop-column.invariant c.if-n-eq0.true
+pub returns-then-listing-eq0 : goal.returns-then-listing-eq0
+returns-then-listing-eq0 c =
+    answer_none _ _ (given_of c.args.record c.args.task) _ c.requires _ _ c.loop-column.listing.output.now _ (search rules) (omega arith) c.loop-column.invariant.written c.if-listing-eq0.true
 
 pub returns : goal.returns
 returns c =
-    answer_some _ _ (given_of c.args.record c.args.task) _ c.requires _ _ _ (omega arith) c.loop-column.invariant c.if-n-eq0.false
+    answer_some _ _ (given_of c.args.record c.args.task) _ c.requires _ _ c.loop-column.listing.output.now _ (search rules) (omega arith) c.loop-column.invariant.written c.if-listing-eq0.false
