@@ -23,7 +23,7 @@ impl Desk {
         card::choose(&self.card, self.draft.bytes.as_slice())
     }
 
-    // P: the draft is placed.
+    // P: the draft is placed. Column and bottom stand apart in the call, and go apart to card, as C gives them: a position here would be made to be parted.
     fn place(&mut self, task: u16, column: u8, bottom: i16) -> Result<(), Refusal>
         ensures answers { Changes (on_record self.old.card (place self.old.draft.bytes.items task column bottom)) (answer_by (λ _. pos 0) result) self.new.card }
         ensures same_draft { self.new.draft.bytes.items ≡ self.old.draft.bytes.items }
