@@ -1,7 +1,8 @@
 // The program, turn by turn: its start, and one turn.
 // That a start and the turns after it print the model's program is `program_done` (specs/Laws/Program.antt).
-ghost use Rattle.std.specs.Prelude.{◌≤◌, None, Some, MatchOption};
+ghost use Rattle.std.specs.Prelude.{◌*◌, ◌≤◌, None, Some, MatchOption};
 ghost use Rattle.model.specs.Program.{Desk as ModelDesk};
+ghost use Rattle.line.specs.Print.{line_room};
 ghost use Rattle.desk.specs.Desk.{output_room, desk_of};
 ghost use Rattle.desk.specs.Run.{state, Starts, Turned};
 
@@ -16,7 +17,7 @@ pub fn start<'a, const N: usize>(
     input: &'a [u8],
     out: &mut ArrayString<N>,
 ) -> Option<(Desk, Stand<'a>)>
-    requires { output_room ≤ N }
+    requires { 2 * line_room ≤ N }
     ensures { MatchOption result ((k : ModelDesk) → Starts input.now (state k None out.new.bytes)) (λ r. Starts input.now (state (desk_of r.0.card r.0.draft.bytes.items) (Some r.1) out.new.bytes)) }
 {
     out.clear();
