@@ -4,7 +4,7 @@ use Rattle.model.specs.Limits.{max_intervals, column_size, words}
 use Rattle.runs.specs.Intervals.{Interval, intervals as maximal_runs}
 use Rattle.model.specs.Record.{padded, column_part}
 use Rattle.model.proofs.Laws.Cells.{scaled}
-use Rattle.cells.specs.Bits.{is_set, cell_bit}
+use Rattle.cells.specs.Bits.{most_words, word_bits, is_set, cell_bit}
 
 -- ---- the numbers that pass a test
 
@@ -88,3 +88,10 @@ pub record EndsWritten (h : ℕ) (p : List ℕ) (i : ℕ) (L : List ℕ) (q : Li
 pub record PartIs (p : List ℕ) (n : ℕ) (L : List Interval) : Type 0 where
   pub bytes_are : p ≡ column_part L
   pub count_is : n ≡ length L
+
+-- a column whose part can be written: the words hold its n cells, and the ends, h apart, are two-byte numbers
+pub record Fillable (ws : List ℕ) (n h : ℕ) : Type 0 where
+  pub few : n ≤ 2 * max_intervals
+  pub room : n ≤ word_bits * length ws
+  pub short : length ws ≤ most_words
+  pub small : h * n < words

@@ -6,7 +6,7 @@ ghost use Rattle.model.specs.Limits.{max_intervals, words as two_bytes};
 ghost use Rattle.model.specs.Bounded.{sum_below};
 ghost use Rattle.model.specs.Record.{column_part};
 ghost use Rattle.cells.specs.Bits.{most_words, word_bits, is_set, cell_bit, between, Shows, RunIn, Marked};
-ghost use Rattle.cells.specs.Ends.{one_below, change, spots, free_below, bit_intervals, Writable, EndsWritten, PartIs};
+ghost use Rattle.cells.specs.Ends.{Fillable, one_below, change, spots, free_below, bit_intervals, Writable, EndsWritten, PartIs};
 
 use std::ops::Range;
 use words::put16;
@@ -17,10 +17,7 @@ pub struct ColumnBits<'a> {
     pub words: &'a [u64],
     pub cells: u32,
     pub height: u32,
-    ghost few: { cells ≤ 2 * max_intervals },
-    ghost room: { cells ≤ word_bits * length words.now },
-    ghost short: { length words.now ≤ most_words },
-    ghost small: { height * cells < two_bytes },
+    ghost fillable: { Fillable words.now cells height },
 }
 
 // The lowest n bits.

@@ -13,8 +13,8 @@ use Rattle.model.specs.Record.{bytes16, column_part}
 use Rattle.model.specs.Parts.{splice}
 use Rattle.model.proofs.Laws.Parts.{length_splice}
 use Rattle.model.proofs.Laws.Cells.{scaled}
-use Rattle.cells.specs.Bits.{most_words, word_bits, is_set, Shows}
-use Rattle.cells.specs.Ends.{hits, spots, one_below, change, ends, is_free, free_below, bit_intervals, numbered, Writable, EndsWritten, PartIs}
+use Rattle.cells.specs.Bits.{word_bits, is_set, Shows}
+use Rattle.cells.specs.Ends.{Fillable, hits, spots, one_below, change, ends, is_free, free_below, bit_intervals, numbered, Writable, EndsWritten, PartIs}
 use Rattle.cells.specs.Laws.Spots.{cleared, spots_none, spots_next, spots_hits, hits_append}
 use Rattle.cells.specs.Laws.Coded.{ends_length, column_numbered, numbered_push, numbered_length, small_append}
 use Rattle.cells.specs.Laws.Ends.{free_changes, small_ends}
@@ -75,13 +75,6 @@ pub word_ends : (ws : List ℕ) (n base t : ℕ) → Shows t (change (free_below
 word_ends ws n base t d =
     let g = change (free_below ws n) in
     hits_append g 0 base word_bits ∙ ap (λ (l : List ℕ). hits g 0 base ++ l) (ap (λ (a : ℕ). hits g a word_bits) (zero-add base) ∙ sym (spots_hits g base word_bits t d))
-
--- a column whose part can be written: the words hold its n cells, and the ends, h apart, are two-byte numbers
-pub record Fillable (ws : List ℕ) (n h : ℕ) : Type 0 where
-  pub few : n ≤ 2 * max_intervals
-  pub room : n ≤ word_bits * length ws
-  pub short : length ws ≤ most_words
-  pub small : h * n < words
 
 -- the free runs, by their ends
 module _ (ws : List ℕ) (n h : ℕ) (c : Fillable ws n h) where

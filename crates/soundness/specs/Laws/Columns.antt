@@ -14,9 +14,8 @@ use Rattle.model.specs.Sound.{within, sound}
 use Rattle.model.proofs.Laws.Record.{record_column, record_count}
 use Rattle.model.proofs.Laws.WriteBack.{Bytes}
 use Rattle.model.proofs.Laws.Sound.{columns_said, running_said, sound_record}
-use Rattle.cells.specs.Ends.{PartIs, bit_intervals}
+use Rattle.cells.specs.Ends.{Fillable, PartIs, bit_intervals}
 use Rattle.cells.specs.Laws.Book.{shown_intervals}
-use Rattle.cells.specs.Laws.Writes.{Fillable}
 use Rattle.marks.specs.Marks.{column_words, words_of}
 use Rattle.marks.specs.Laws.Marks.{few_rows, few_cells}
 use Rattle.soundness.specs.Soundness.{TasksHeld, ColumnOk, ColumnsOk}

@@ -11,8 +11,7 @@ pub invariant_of-bits : goal.invariant_of-bits
 invariant_of-bits c =
     let s = c.args.self.now in
     let l = s.legible in
-    let f = fillable _ _ s.tasks _ l.said c.requires.column _ (sym c.unwrap-kind.ensures ∙ c.try_from.ensures) c.cells.ensures c.height.ensures l.whole c.column.ensures.len in
-    record { few = f.few; room = f.room; short = f.short; small = f.small }
+    record { fillable = fillable _ _ s.tasks _ l.said c.requires.column _ (sym c.unwrap-kind.ensures ∙ c.try_from.ensures) c.cells.ensures c.height.ensures l.whole c.column.ensures.len }
 
 pub returns : goal.returns
 returns c =
