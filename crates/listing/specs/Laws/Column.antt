@@ -127,9 +127,6 @@ module _ (r t : List ℕ) (p k s : ℕ) (L : List Run) (given : Given r t) (next
 
 -- ---- all blocks
 
-pub all_standing : (r t : List ℕ) (p k s : ℕ) (L : List Run) → k ≡ blocks t → Standing (device_of r) (book_of r) t p k s L → AllStanding r t p L
-all_standing r t p k s L e g = record { step = s; listed = rw e at g }
-
 module _ (r t : List ℕ) (p : ℕ) (L : List Run) (g : AllStanding r t p L) where
   pub all_lifted : All IsLifted L
   all_lifted =
