@@ -28,7 +28,7 @@ fn free_blocks(record: &mut [u8; RECORD_SIZE], j: usize)
 }
 
 // Takes out the task of a number.
-#[tactic(auto, using(model::proofs::Laws::Sound::sound_length, crate::specs::Laws::Entries::found_place, crate::specs::Laws::Entries::found_runs, crate::proofs::Laws::Leave::entry_there, crate::proofs::Laws::Leave::left_record))]
+#[tactic(auto, using(model::proofs::Laws::Sound::sound_length, crate::specs::Laws::Entries::found_place, crate::specs::Laws::Entries::found_runs, crate::proofs::Laws::Leave::left_record))]
 pub fn leave(record: &mut [u8], number: u32)
     requires { (sound «record».old ≡ true) × (runs_in (book_of «record».old) number ≡ true) }
     ensures { «record».new ≡ record_of (device_of «record».old) (without number (book_of «record».old)) }

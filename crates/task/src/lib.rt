@@ -223,7 +223,7 @@ fn starts_at_zero(task: &[u8]) -> bool
 }
 
 // MODEL 4.4: whether a task is well-formed.
-// By the blocks' numbers: each byte block may be no block, and neighbours taken in pairs would be read twice.
+// By the blocks' numbers: what stands at one may be no block, and of neighbours taken in pairs each would be read twice.
 #[tactic(auto, using(crate::specs::Laws::Tasks::ill_start, crate::specs::Laws::Tasks::all_tested), unfolding(model::specs::Tasks::blocks))]
 pub fn well_formed(task: &[u8]) -> bool
     ensures { result ≡ well_formed task.now }
