@@ -50,18 +50,13 @@ impl Column<'_> {
         }
     }
 
-    // MODEL 6.5 and 11.1: the interval in which all half rows of a run lie. A loop: with `map` and `find` in its place the check of a full record, in which
-    // this is the innermost search, takes 15 % longer.
+    // MODEL 6.5 and 11.1: the interval in which all half rows of a run lie.
     pub fn holder(self, run: Interval) -> Option<Interval>
         ensures { result ≡ held_in run.bottom run.top (listed_in self.entry.part.now self.entry.count) }
     {
-        for i in 0..self.count {
-            let next = self.interval(i);
-            if next.holds(run) {
-                return Some(next);
-            }
-        }
-        None
+        (0..self.count)
+            .map(|i| self.interval(i))
+            .find(|next| next.holds(run))
     }
 
     // MODEL 11.1: the number of the first interval, from number `from` on, that ends at `top` or above it. Only tops are read. Where there is none the

@@ -1,15 +1,15 @@
--- MODEL 11.1: the interval of a list that holds b..t, what the search of `holder` finds, and the loop. Assumes nothing.
-use Rattle.std.proofs.Common.{ℕ, suc, ◌+◌, ◌-◌, ◌≤◌, ◌<◌, ◌≡◌, sym, refl, Bool, true, false, ◌&&◌, leb, Some, None, ◌∙◌, arith, inl, inr, List, [], ◌∷◌, lt-ltb, le-ltb, le-leb}
+-- MODEL 11.1: the interval of a list that holds b..t, and what the search of `holder` finds. Assumes nothing.
+use Rattle.std.proofs.Common.{ℕ, zero, suc, ◌≤◌, ◌<◌, ◌≡◌, refl, Bool, true, false, ◌&&◌, leb, Some, None, arith, inl, inr, List, [], ◌∷◌, map, ap, add-one, lt-ltb, le-ltb, le-leb}
+use Rattle.std.specs.List.{find, range_with_len}
 use borrow.Author.Tests.{lt-leb}
 use Rattle.runs.specs.Intervals.{Interval, interval, Apart, Holds}
 use Rattle.runs.specs.Laws.Tests.{tests, cond_ind}
 use Rattle.runs.specs.Laws.Intervals.{named_ge, holds_of}
 use Rattle.model.specs.Homes.{holder}
 use Rattle.model.specs.Bounded.{In as Among}
-use Rattle.model.proofs.Laws.Bounded.{and_to, and_of, clash, is_false}
+use Rattle.model.proofs.Laws.Bounded.{and_to, and_of, clash}
 use Rattle.column.specs.declared.Interval.{Interval as Read}
-use Rattle.column.specs.Part.{listed_from, listed_in, ReadAt, held_in}
-use Rattle.column.specs.Laws.Reading.{listed_next, listed_end}
+use Rattle.column.specs.Part.{interval_at, listed_from, listed_in, ReadAt, held_in}
 
 -- x is an interval of L, and holds b..t
 pub record Holder (b t : ℕ) (L : List Interval) (x : Read) : Type 0 where
@@ -68,19 +68,21 @@ module _ (b t : ℕ) where
       let above : suc i.top ≤ b = named_ge (suc i.top) b L c.2 (holds_of b t p L h b (omega arith) p) in
       rw (le-leb i.bottom b (omega arith), lt-leb t i.top (omega arith), le-ltb b i.top (omega arith)) (held_holder (suc i.top) L p c.2 h)
 
--- ---- `holder`: no interval below i holds b..t
+-- ---- `holder`: the first of the intervals read that holds b..t
 
-module _ {p : List ℕ} {i n : ℕ} {x : Read} (q : i < n) (r : ReadAt p i x) (b t : ℕ) (so_far : held_in b t (listed_in p n) ≡ held_in b t (listed_from p i (n - i))) where
-  pub held : x.bottom ≤ b → t ≤ x.top → Some x ≡ held_in b t (listed_in p n)
+-- interval i of the part p, as the code has it
+abbrev pub read_at : List ℕ → ℕ → Read
+read_at p i = record { bottom = (interval_at p i).bottom; top = (interval_at p i).top }
+
+pub read_is : {p : List ℕ} {i : ℕ} {r : Read} → ReadAt p i r → r ≡ read_at p i
+read_is e = ap (λ (x : Interval). record { bottom = x.bottom; top = x.top }) e.is
+
+module _ (p : List ℕ) (b t : ℕ) where
+  found_from : (a n : ℕ) → find (λ (x : Read). leb x.bottom b && leb t x.top) (map (read_at p) (range_with_len a n)) ≡ held_in b t (listed_from p a n)
   unfolding held_in
-  held g h = sym (so_far ∙ rw (listed_next q r, le-leb x.bottom b g, le-leb t x.top h))
+  found_from a zero = refl
+  found_from a (suc n) = rw (add-one, found_from (suc a) n)
 
-  pub passed : (x.bottom ≤ b → t ≤ x.top → ⊥) → held_in b t (listed_in p n) ≡ held_in b t (listed_from p (i + 1) (n - (i + 1)))
-  unfolding held_in
-  passed out =
-      let i = interval x.bottom x.top in
-      so_far ∙ rw (listed_next q r, is_false (is_holding b t i) (λ e. let (g, h) = holds_yes b t i e in out g h))
-
-pub none_held : {i n : ℕ} (p : List ℕ) (b t : ℕ) → n ≤ i → held_in b t (listed_in p n) ≡ held_in b t (listed_from p i (n - i)) → None ≡ held_in b t (listed_in p n)
-unfolding held_in
-none_held p b t h so_far = sym (rw (listed_end p h) at so_far)
+  pub found_held : (n : ℕ) → find (λ (x : Read). leb x.bottom b && leb t x.top) (map (read_at p) (range_with_len 0 n)) ≡ held_in b t (listed_in p n)
+  unfolding listed_in
+  found_held n = found_from 0 n
