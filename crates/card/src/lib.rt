@@ -21,6 +21,7 @@ pub use answers::{Chosen, Fragmentation, answer};
 use column::Column;
 use record::bytes::Entry;
 use record::checked::{RecordFault, SoundRecord};
+use record::device::Device;
 pub use refusal::Refusal;
 use task::{Position, Task, TaskFault};
 
@@ -87,10 +88,10 @@ pub fn new(record: &mut [u8], rows: u32, kinds: &[u8]) -> Result<(), Refusal>
     let Some(record) = record.as_mut_array() else {
         return Err(Refusal::RecordLength);
     };
-    if !record::device::device_ok(rows, kinds) {
+    let Some(device) = Device::new(rows, kinds) else {
         return Err(Refusal::DeviceOrColumn);
-    }
-    record::clear::clear(record, rows, kinds);
+    };
+    record::clear::clear(record, device);
     Ok(())
 }
 

@@ -3,80 +3,26 @@
 
 ghost use Rattle.std.specs.Prelude.{◌≡◌, ◌+◌, ◌*◌, ◌<◌, ◌↔◌, true, length, replicate, IsTrue, MatchOption};
 ghost use Rattle.model.specs.Limits.{max_columns};
-ghost use Rattle.model.specs.Columns.{columns, kind as kind_of, device_ok};
-ghost use Rattle.model.specs.Kinds.{number_of};
 ghost use Rattle.model.specs.Blocks.{Solid};
-ghost use Rattle.model.specs.Record.{device_of};
 ghost use Rattle.task.specs.Blocks.{seen};
-ghost use Rattle.marks.specs.Device.{as_device};
+ghost use Rattle.record.specs.Device.{as_device};
 ghost use Rattle.marks.specs.Marks.{column_words, all_words, words_of, OnCells, FitsNowhere, EntryPosition, BlockMarked, TaskMarked};
 
 use cells::mark;
-use model::{COLUMNS_AT, KINDS_AT, Kind, MAX_COLUMNS, MAX_ROWS, RECORD_SIZE, ROWS_AT};
+use model::{MAX_COLUMNS, MAX_ROWS};
+use record::device::Device;
 use std::ops::Range;
 use task::{Block, Position, Task};
-use words::get16;
 
 // The words of a column: a bit for each cell that it may have. And those of all columns.
 const COLUMN_WORDS: usize = MAX_ROWS as usize / 64; // `as`: in a constant std has no other form
 
 const ALL_WORDS: usize = COLUMN_WORDS * MAX_COLUMNS;
 
-// MODEL 3.2: how many rows a device has, and the kind byte of each column.
-#[derive(Clone, Copy)]
-pub struct Device<'a> {
-    pub rows: u32,
-    pub kinds: &'a [u8],
-}
-
 // The cells that are held, as the bits of all columns.
 #[derive(Drop)]
 pub struct HeldCells {
     pub words: [u64; ALL_WORDS],
-}
-
-impl<'a> Device<'a> {
-    // MODEL 8.7: what the bytes of a record say, be it a device or not.
-    #[tactic(auto, using(crate::specs::Laws::Marks::device_said))]
-    pub fn said(record: &'a [u8; RECORD_SIZE]) -> Device<'a>
-        ensures { as_device result ≡ device_of «record».now }
-    {
-        let end = KINDS_AT + usize::from(record[COLUMNS_AT]);
-        Device {
-            rows: get16(record, ROWS_AT),
-            kinds: &record[KINDS_AT..end],
-        }
-    }
-}
-
-impl Device<'_> {
-    // MODEL 6.2: whether column c is one of the device and has that kind. Not `SoundRecord::has_kind`: these bytes may be of no record that is sound.
-    #[tactic(auto, unfolding(model::specs::Columns::columns, model::specs::Columns::kind))]
-    fn has_kind(self, c: usize, kind: Kind) -> bool
-        ensures { IsTrue result ↔ ((c < columns (as_device self.entry)) × (kind_of (as_device self.entry) c ≡ number_of kind)) }
-    {
-        c < self.kinds.len() && self.kinds[c] == u8::from(kind)
-    }
-
-    // MODEL 6.2 to 6.4: the cells of a block that is moved to a position, where it stands on the grid of a column of its kind. That the position can
-    // be one of an entry is asked three times: a type for it would be a second `Position`, of which only this crate has need.
-    #[tactic(auto, using(crate::specs::Laws::Marks::few_rows, crate::specs::Laws::Marks::off_kind, crate::specs::Laws::Marks::off_grid, crate::specs::Laws::Marks::too_high, crate::specs::Laws::Marks::on_cells))]
-    fn cells_of(self, block: Block, at: Position) -> Option<Range<u32>>
-        requires device { device_ok (as_device self) ≡ true }
-        requires solid { Solid (seen block) }
-        requires position { EntryPosition at.column at.bottom }
-        ensures { MatchOption result (FitsNowhere (as_device self.entry) (seen block) at.column at.bottom) (λ run. OnCells (as_device self.entry) (seen block) at.column at.bottom run.start run.end) }
-    {
-        let c = at.column + block.extent.column;
-        if !self.has_kind(c, block.kind) || !block.on_grid(at.bottom) {
-            return None;
-        }
-        let rows = block.extent.rows_at(at.bottom);
-        if rows.top > 2 * self.rows {
-            return None;
-        }
-        Some(block.kind.cell(rows.bottom)..block.kind.cell(rows.top))
-    }
 }
 
 // Where the words of column c stand.
@@ -87,6 +33,25 @@ fn words_at(c: usize) -> Range<usize>
 {
     let a = COLUMN_WORDS * c;
     a..a + COLUMN_WORDS
+}
+
+// MODEL 6.2 to 6.4: the cells of a block that is moved to a position, where it stands on the grid of a column of its kind. That the position can be one
+// of an entry is asked three times: a type for it would be a second `Position`, of which only this crate has need.
+#[tactic(auto, using(crate::specs::Laws::Marks::few_rows, crate::specs::Laws::Marks::off_kind, crate::specs::Laws::Marks::off_grid, crate::specs::Laws::Marks::too_high, crate::specs::Laws::Marks::on_cells))]
+fn cells_of(device: Device, block: Block, at: Position) -> Option<Range<u32>>
+    requires solid { Solid (seen block) }
+    requires position { EntryPosition at.column at.bottom }
+    ensures { MatchOption result (FitsNowhere (as_device device.entry) (seen block) at.column at.bottom) (λ run. OnCells (as_device device.entry) (seen block) at.column at.bottom run.start run.end) }
+{
+    let c = at.column + block.extent.column;
+    if !device.has_kind(c, block.kind) || !block.on_grid(at.bottom) {
+        return None;
+    }
+    let rows = block.extent.rows_at(at.bottom);
+    if rows.top > 2 * device.rows {
+        return None;
+    }
+    Some(block.kind.cell(rows.bottom)..block.kind.cell(rows.top))
 }
 
 impl HeldCells {
@@ -112,12 +77,11 @@ impl HeldCells {
     // Marks a block that is moved to a position, and says whether it fits.
     #[tactic(auto, using(crate::specs::Laws::Marks::refused))]
     fn mark_block(&mut self, device: Device, block: Block, at: Position) -> bool
-        requires device { device_ok (as_device device) ≡ true }
         requires solid { Solid (seen block) }
         requires position { EntryPosition at.column at.bottom }
         ensures { BlockMarked (as_device device.entry) self.old.words (seen block) at.column at.bottom self.new.words result }
     {
-        let Some(run) = device.cells_of(block, at) else {
+        let Some(run) = cells_of(device, block, at) else {
             return false;
         };
         let c = at.column + block.extent.column;
@@ -127,8 +91,7 @@ impl HeldCells {
     // Marks the blocks of a task that is moved to a position, up to the first that does not fit, and says whether all fit.
     #[tactic(auto, using(crate::specs::Laws::Marks::blocks_start, crate::specs::Laws::Marks::blocks_refused, crate::specs::Laws::Marks::blocks_next, crate::specs::Laws::Marks::blocks_end, task::specs::Laws::Blocks::same_seen, model::proofs::Laws::Tasks::solid_block))]
     pub fn mark_task(&mut self, device: Device, task: Task, at: Position) -> bool
-        requires device { device_ok (as_device device) ≡ true }
-        requires position { EntryPosition at.column at.bottom }
+        requires { EntryPosition at.column at.bottom }
         ensures { TaskMarked (as_device device.entry) self.old.words task.entry.bytes.now at.column at.bottom self.new.words result }
     {
         for k in 0..task.count() {

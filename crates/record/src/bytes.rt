@@ -79,17 +79,24 @@ impl<'a> EntryBytes<'a> {
         }
     }
 
+    // How many blocks it says that its task has, be they as many or not.
+    pub fn count(self) -> usize
+        ensures { result ≡ block_count self.entry.bytes.now self.entry.j }
+    {
+        let bytes = self.bytes;
+        usize::from(bytes[entry_at(self.j) + ENTRY_COUNT_AT])
+    }
+
     // MODEL 21.5: its blocks, left where they stand in the record; none where they are more than an entry has room for.
     fn blocks(self) -> Option<&'a [u8]>
         ensures { let r = self.entry.bytes.now in let n = block_count r self.entry.j in let a = entry_at self.entry.j + blocks_at in MatchOption result (max_blocks < n) (λ b. (n ≤ max_blocks) × (b.now ≡ slice_range r a (a + block_size * n))) }
     {
         let bytes = self.bytes;
-        let at = entry_at(self.j);
-        let count = usize::from(bytes[at + ENTRY_COUNT_AT]);
+        let count = self.count();
         if count > MAX_BLOCKS {
             return None;
         }
-        let a = at + BLOCKS_AT;
+        let a = entry_at(self.j) + BLOCKS_AT;
         let e = a + BLOCK_SIZE * count;
         Some(&bytes[a..e])
     }

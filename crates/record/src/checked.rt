@@ -8,6 +8,7 @@ ghost use Rattle.model.specs.Sound.{sound, count_of};
 ghost use Rattle.column.specs.Laws.Lent.{lent};
 
 use crate::bytes::part_at;
+use crate::device::Device;
 use crate::sound::sound;
 use column::Column;
 use model::{COLUMNS_AT, COUNTS_AT, KINDS_AT, Kind, RECORD_SIZE, ROWS_AT};
@@ -27,6 +28,8 @@ pub enum RecordFault {
 }
 
 impl<'a> SoundRecord<'a> {
+    ghost use Rattle.record.specs.Device.{as_device};
+
     // MODEL 9.1: the bytes as a sound record, where they are one.
     pub fn read(bytes: &'a [u8]) -> Result<SoundRecord<'a>, RecordFault>
         ensures ok { IfOk result (λ r. r.bytes.now ≡ bytes.now) }
@@ -42,14 +45,20 @@ impl<'a> SoundRecord<'a> {
         Ok(SoundRecord { bytes })
     }
 
-    // MODEL 3.2: how many rows and columns the device has.
-    #[tactic(auto, using(model::proofs::Laws::Sound::sound_length), unfolding(model::specs::Record::device_of))]
-    pub fn rows(self) -> u32
-        ensures { result ≡ (device_of self.entry.bytes.now).rows }
+    // MODEL 3.2: its device.
+    #[tactic(auto, using(model::proofs::Laws::Sound::sound_length, crate::specs::Laws::Rebuild::device_said, crate::specs::Laws::Checked::device_whole))]
+    pub fn device(self) -> Device<'a>
+        ensures { as_device result ≡ device_of self.entry.bytes.now }
     {
-        get16(self.bytes, ROWS_AT)
+        let bytes = self.bytes;
+        let end = KINDS_AT + self.columns();
+        Device {
+            rows: get16(bytes, ROWS_AT),
+            kinds: &bytes[KINDS_AT..end],
+        }
     }
 
+    // MODEL 3.2: how many columns the device has.
     #[tactic(auto, using(model::proofs::Laws::Sound::sound_length, model::proofs::Laws::Sound::columns_said, crate::specs::Laws::Fits::few_columns))]
     pub fn columns(self) -> usize
         ensures count { result ≡ columns (device_of self.entry.bytes.now) }

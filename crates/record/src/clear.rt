@@ -1,13 +1,15 @@
 // MODEL 12.3: the record of a new card, on which all cells are free and no task runs.
-ghost use Rattle.std.specs.Prelude.{◌≡◌, true, [], ◌∷◌, ◌+◌, ◌≤◌, ◌<◌, set};
+ghost use Rattle.std.specs.Prelude.{◌≡◌, [], ◌∷◌, ◌+◌, ◌≤◌, ◌<◌, set};
 ghost use Rattle.runs.specs.Intervals.{interval, piece};
 ghost use Rattle.model.specs.Limits.{max_rows, max_kind, words, kinds_at};
-ghost use Rattle.model.specs.Columns.{top_in, device_ok};
+ghost use Rattle.model.specs.Columns.{top_in};
 ghost use Rattle.model.specs.Record.{column_part, record_of};
 ghost use Rattle.model.specs.InPlace.{put_column};
+ghost use Rattle.record.specs.Device.{as_device};
 ghost use Rattle.record.specs.Clear.{Closed};
 
 use crate::bytes::part_at;
+use crate::device::Device;
 use model::{COLUMNS_AT, COUNTS_AT, INTERVAL_TOP_AT, KINDS_AT, Kind, RECORD_SIZE, ROWS_AT};
 use words::put16;
 
@@ -37,16 +39,14 @@ fn open_column(record: &mut [u8; RECORD_SIZE], c: usize, rows: u32, kind: u8)
 }
 
 // Writes the record of a new card.
-// Rows and kinds stay apart, here and at `device_ok`: so they come from C and from a record's head, and a struct of both would be made for each call.
 #[tactic(auto, using(crate::specs::Laws::Clear::few_rows, crate::specs::Laws::Clear::few_kinds, crate::specs::Laws::Clear::opened_all), unfolding(model::specs::Columns::columns))]
-pub fn clear(record: &mut [u8; RECORD_SIZE], rows: u32, kinds: &[u8])
-    requires { device_ok (record { rows = rows; kinds = kinds.now }) ≡ true }
-    ensures { «record».new ≡ record_of (record { rows = rows; kinds = kinds.now }) [] }
+pub fn clear(record: &mut [u8; RECORD_SIZE], device: Device)
+    ensures { «record».new ≡ record_of (as_device device.entry) [] }
 {
     record.fill(0);
-    put16(record, ROWS_AT, rows);
-    record[COLUMNS_AT] = kinds.len() as u8; // `as`: a device has 64 columns at most
-    for (c, kind) in kinds.iter().enumerate() {
-        open_column(record, c, rows, *kind);
+    put16(record, ROWS_AT, device.rows);
+    record[COLUMNS_AT] = device.kinds.len() as u8; // `as`: a device has 64 columns at most
+    for (c, kind) in device.kinds.iter().enumerate() {
+        open_column(record, c, device.rows, *kind);
     }
 }

@@ -49,7 +49,7 @@ impl<'a> SoundRecord<'a> {
     // The place that an entry of a number takes: behind all that have no higher number.
     // By a loop: `rev`, `find` and `map_or` in a chain, with what its closure requires, are no plainer.
     #[tactic(auto, using(crate::specs::Laws::Entries::place_behind, crate::specs::Laws::Entries::place_first))]
-    pub(crate) fn place_of(self, number: u32) -> usize
+    pub fn place_of(self, number: u32) -> usize
         ensures { result ≡ place number (book_of self.entry.bytes.now) }
     {
         let record = self.array();
@@ -81,7 +81,7 @@ fn write_entry(part: &mut [u8], new: Entry<'_>)
 }
 
 // Puts a running task's entry in at place k: those from k on move up by one.
-pub(crate) fn insert_entry(record: &mut [u8; RECORD_SIZE], k: usize, new: Entry<'_>)
+pub fn insert_entry(record: &mut [u8; RECORD_SIZE], k: usize, new: Entry<'_>)
     requires { Enterable «record».old k new.number new.at.column new.at.bottom }
     ensures { Entered «record».old «record».new k (seen new.entry) }
 {
@@ -95,7 +95,7 @@ pub(crate) fn insert_entry(record: &mut [u8; RECORD_SIZE], k: usize, new: Entry<
 }
 
 // Takes entry k out: those above it move down by one.
-pub(crate) fn remove_entry(record: &mut [u8; RECORD_SIZE], k: usize)
+pub fn remove_entry(record: &mut [u8; RECORD_SIZE], k: usize)
     requires entry { k < get_or «record».old running_at 0 }
     requires few { get_or «record».old running_at 0 ≤ max_running }
     ensures { Removed «record».old «record».new k }

@@ -27,7 +27,7 @@ impl SoundRecord<'_> {
     pub fn has_kind(self, c: usize, kind: Kind) -> bool
         ensures { IsTrue result ↔ ((c < columns (device_of self.entry.bytes.now)) × (kind_of (device_of self.entry.bytes.now) c ≡ number_of kind)) }
     {
-        c < self.columns() && self.kind(c) == kind
+        self.device().has_kind(c, kind)
     }
 
     // MODEL 6.2 to 6.5: whether block k of a task fits that stands at a position.

@@ -9,10 +9,9 @@ ghost use Rattle.record.specs.Rebuild.{prior, Ready, Tried, Rebuilt, Step};
 use crate::bytes::{Entry, EntryBytes, running};
 use crate::checked::SoundRecord;
 use crate::clear::clear;
-use crate::device::device_ok;
+use crate::device::Device;
 use crate::enter::enter;
-use model::{COLUMNS_AT, KINDS_AT, MAX_RUNNING, RECORD_SIZE, ROWS_AT};
-use words::get16;
+use model::{MAX_RUNNING, RECORD_SIZE};
 
 // MODEL 9.4: whether the number of running entry j is above that of the entry before it, and the first is 1 or more.
 #[tactic(auto, using(crate::specs::Laws::Rebuild::rises_first, crate::specs::Laws::Rebuild::rises_next))]
@@ -80,18 +79,15 @@ fn enter_all(scratch: &mut [u8; RECORD_SIZE], record: &[u8; RECORD_SIZE]) -> boo
 }
 
 // MODEL 9.9: whether a record's bytes are what is rebuilt from what they say.
-#[tactic(auto, using(crate::specs::Laws::Rebuild::device_said, crate::specs::Laws::Rebuild::refused_device, crate::specs::Laws::Rebuild::rebuilt_none, crate::specs::Laws::Rebuild::rebuilt_all))]
+#[tactic(auto, using(crate::specs::Laws::Rebuild::refused_device, crate::specs::Laws::Rebuild::rebuilt_none, crate::specs::Laws::Rebuild::rebuilt_all))]
 fn is_rebuilt(record: &[u8; RECORD_SIZE]) -> bool
     ensures { result ≡ sound «record».now }
 {
-    let rows = get16(record, ROWS_AT);
-    let end = KINDS_AT + usize::from(record[COLUMNS_AT]);
-    let kinds = &record[KINDS_AT..end];
-    if !device_ok(rows, kinds) {
+    let Some(device) = Device::said(record) else {
         return false;
-    }
+    };
     let mut scratch = [0u8; RECORD_SIZE];
-    clear(&mut scratch, rows, kinds);
+    clear(&mut scratch, device);
     if !enter_all(&mut scratch, record) {
         return false;
     }
@@ -99,7 +95,7 @@ fn is_rebuilt(record: &[u8; RECORD_SIZE]) -> bool
 }
 
 // MODEL 9.1: whether bytes of any length are a sound record.
-// The check by bits (crate soundness) stands beside it: it takes this one's place in a change of its own, as this one's contracts and laws go then (decision 83).
+// The check by bits (crate soundness) is another algorithm for the same; it takes this one's place in a change of its own (decision 83).
 pub fn sound(record: &[u8]) -> bool
     ensures { result ≡ sound «record».now }
 {

@@ -5,24 +5,23 @@
 
 ghost use Rattle.std.specs.Prelude.{◌≡◌, ◌↔◌, ◌+◌, ◌≤◌, ◌<◌, IsTrue, MatchOption, EachIndex, slice_index, length, get_or, replicate, true, false};
 ghost use Rattle.model.specs.Limits.{max_columns, max_running, record_size, columns_at, running_at, column_size};
-ghost use Rattle.model.specs.Columns.{device_ok};
 ghost use Rattle.model.specs.Book.{intervals};
 ghost use Rattle.model.specs.Record.{part, column_at, device_of, book_of};
 ghost use Rattle.model.specs.Sound.{count_of, sound};
 ghost use Rattle.model.proofs.Laws.Clauses.{Zero};
 ghost use Rattle.model.proofs.Laws.WriteBack.{Bytes};
 ghost use Rattle.cells.specs.Ends.{PartIs};
-ghost use Rattle.marks.specs.Device.{as_device};
+ghost use Rattle.record.specs.Device.{as_device};
 ghost use Rattle.soundness.specs.Soundness.{TasksHeld, ColumnOk, ColumnsOk, Unused, Judged};
 
 use cells::ColumnBits;
-use marks::{Device, HeldCells};
+use marks::HeldCells;
 use model::{
     BLOCKS_AT, COLUMN_SIZE, COUNTS_AT, ENTRIES_AT, ENTRY_SIZE, INTERVALS_AT, KINDS_AT, Kind,
     MAX_RUNNING, RECORD_SIZE,
 };
 use record::bytes::{EntryBytes, entry_at, part_at, running};
-use record::device::device_ok;
+use record::device::Device;
 use record::sound::rises;
 use std::ops::Range;
 use words::zeros;
@@ -35,7 +34,6 @@ struct Legible<'a> {
     ghost octets: { Bytes bytes.now },
     ghost size: { length bytes.now ≡ record_size },
     ghost said: { as_device device ≡ device_of bytes.now },
-    ghost whole: { device_ok (as_device device) ≡ true },
     ghost narrow: { length device.kinds.now ≤ max_columns },
     ghost counted: { length device.kinds.now ≡ get_or bytes.now columns_at 0 },
     ghost few: { get_or bytes.now running_at 0 ≤ max_running },
@@ -67,8 +65,8 @@ impl<'a> Legible<'a> {
     fn read(bytes: &'a [u8; RECORD_SIZE]) -> Option<Legible<'a>>
         ensures { MatchOption result (sound bytes.now ≡ false) (λ l. l.bytes.now ≡ bytes.now) }
     {
-        let device = Device::said(bytes);
-        if !device_ok(device.rows, device.kinds) || running(bytes) > MAX_RUNNING {
+        let device = Device::said(bytes)?;
+        if running(bytes) > MAX_RUNNING {
             return None;
         }
         Some(Legible { bytes, device })

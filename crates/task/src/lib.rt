@@ -3,7 +3,7 @@
 #![tactic(auto)]
 
 ghost use Rattle.std.specs.Prelude.{◌≡◌, true, false, ◌+◌, ◌-◌, ◌*◌, ◌%◌, ◌^◌, ◌≤◌, ◌<◌, ◌↔◌, length, get_or, IsTrue, IfOk, IsErrOf};
-ghost use Rattle.model.specs.Limits.{block_size, max_blocks, reach, words};
+ghost use Rattle.model.specs.Limits.{block_size, max_blocks, max_kind, reach, words};
 ghost use Rattle.model.specs.Columns.{height};
 ghost use Rattle.model.specs.Tasks.{lifted, block, blocks, sized, block_ok, follows, well_formed, step};
 ghost use Rattle.task.specs.Blocks.{seen, rows_of, Same, SameExtent, Reads, starts};
@@ -138,7 +138,7 @@ impl<'a> Task<'a> {
         requires { k < blocks self.bytes.now }
         ensures { Same result (block self.entry.bytes.now k) }
     {
-        read_block(self.bytes, k).unwrap()
+        block_at(self.bytes, k)
     }
 
     // MODEL 4.2: where its block k is.
@@ -194,6 +194,16 @@ pub fn read_block(task: &[u8], i: usize) -> Option<Block>
         kind,
         extent: extent_at(task, i),
     })
+}
+
+// MODEL 4.2: block i of a task, whose kind byte is known to be a kind's.
+#[tactic(auto, using(model::proofs::Laws::Kinds::kind_known, model::proofs::Laws::Kinds::kind_unknown))]
+pub fn block_at(task: &[u8], i: usize) -> Block
+    requires whole { block_size * i + block_size ≤ length task.now }
+    requires known { (block task.now i).kind ≤ max_kind }
+    ensures { Same result (block task.now i) }
+{
+    read_block(task, i).unwrap()
 }
 
 // MODEL 4.1: whether the bytes are those of 1 to 32 whole blocks.

@@ -140,13 +140,6 @@ module _ (d : Device) (ok : device_ok d ≡ true) where
       let m = mul-le-mul_right {m = 2} {n = h} (2 * d.rows / h) (height_two (kind d i)) in
       omega (arith, mul-div-le (2 * d.rows) h)
 
--- the device that r says, by its kind bytes
-pub device_said : (r : List ℕ) (n k : ℕ) → length r ≡ record_size → n ≡ word r rows_at → k ≡ get_or r columns_at 0 → k < bytes
-    → record { rows = n; kinds = take (kinds_at + k - kinds_at) (drop kinds_at r) } ≡ device_of r
-unfolding device_of part
-device_said r n k l p q h =
-    rw (add-sub_cancel_left, p, ← q) (ap (λ (ks : List ℕ). record { rows = word r rows_at; kinds = ks }) (sym (list_parts r kinds_at k 0 (omega arith))))
-
 -- ---- where a block is
 
 module _ (d : Device) (k : Block) (p y : ℕ) where

@@ -3,14 +3,14 @@ use Rattle.std.specs.Prelude.{ℕ, ◌+◌, ◌≤◌, ◌<◌, ◌≡◌, refl,
 use Rattle.std.specs.Result.{IsOk}
 use Rattle.std.proofs.Common.{sym, arith}
 use Rattle.model.specs.Limits.{max_columns, max_running, max_kind, running_at, kinds_at}
-use Rattle.model.specs.Columns.{columns, kind}
+use Rattle.model.specs.Columns.{columns, kind, device_ok}
 use Rattle.model.specs.Record.{device_of, book_of}
 use Rattle.model.specs.Sound.{sound, count_of}
 use Rattle.model.specs.Kinds.{kind_of}
 use Rattle.model.specs.declared.Kind.{Kind}
 use Rattle.model.specs.declared.UnknownKind.{UnknownKind}
 use Rattle.model.proofs.Laws.Kinds.{kind_unknown}
-use Rattle.model.proofs.Laws.Limits.{limits_to, kind_le}
+use Rattle.model.proofs.Laws.Limits.{limits_to, kind_le, within_device}
 use Rattle.model.proofs.Laws.Sound.{columns_said, running_said, kind_read, sound_within}
 use Rattle.column.specs.Part.{Part}
 use Rattle.column.specs.Laws.Lent.{lent, lent_is}
@@ -22,6 +22,9 @@ module _ (r : List ℕ) (s : sound r ≡ true) where
 
   pub running_few : length (book_of r) ≤ max_running
   running_few = (limits_to (device_of r) (book_of r) (sound_within r s)).few
+
+  pub device_whole : device_ok (device_of r) ≡ true
+  device_whole = within_device (device_of r) (book_of r) (sound_within r s)
 
   -- by the byte that counts them
   pub running_small : get_or r running_at 0 ≤ max_running

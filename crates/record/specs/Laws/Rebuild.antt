@@ -178,12 +178,12 @@ module _ (r : List ℕ) where
   pub refused_length : (length r ≡ record_size → ⊥) → false ≡ sound r
   refused_length h = sym (is_false (sound r) (λ s. h (sound_length r s)))
 
-  pub refused_device : (d : Device) (ok : Bool) → d ≡ device_of r → ok ≡ device_ok d → ok ≡ false → false ≡ sound r
-  refused_device d ok e v f = let h = ap device_ok (sym e) ∙ sym v ∙ f in sym (is_false (sound r) (λ s. clash (within_device (device_of r) (book_of r) (sound_within r s)) h))
+  pub refused_device : device_ok (device_of r) ≡ false → false ≡ sound r
+  refused_device h = sym (is_false (sound r) (λ s. clash (within_device (device_of r) (book_of r) (sound_within r s)) h))
 
   -- nothing entered yet
-  pub rebuilt_none : (s : List ℕ) (d : Device) (ok : Bool) → d ≡ device_of r → ok ≡ device_ok d → ok ≡ true → s ≡ record_of d [] → Rebuilt r s 0
-  rebuilt_none s d ok e v t q = record { bytes = rw e at q; limits = within_new (device_of r) (ap device_ok (sym e) ∙ sym v ∙ t) }
+  pub rebuilt_none : (s : List ℕ) (d : Device) → d ≡ device_of r → device_ok d ≡ true → s ≡ record_of d [] → Rebuilt r s 0
+  rebuilt_none s d e t q = record { bytes = rw e at q; limits = within_new (device_of r) (rw e at t) }
 
   pub refused_running : max_running < get_or r running_at 0 → sound r ≡ false
   refused_running h = is_false (sound r) (λ s. omega (arith, (clauses_to r s).few_running))

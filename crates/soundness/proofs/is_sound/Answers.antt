@@ -3,10 +3,10 @@ use Rattle.soundness.specs.Laws.Sound.{held_none, judged_sound}
 use Rattle.soundness.proofs.is_sound.Goals as goal
 
 pub mark_entries-requires : goal.mark_entries-requires
-mark_entries-requires c = let l = c.in-Some.legible in held_none _ _ (rw l.said at l.whole) c.new-held.ensures
+mark_entries-requires c = let l = c.in-Some.legible in held_none _ _ (rw l.said at l.device.whole) c.new-held.ensures
 
 pub returns : goal.returns
 returns c =
     let l = c.in-Some.legible in
-    rw c.in-Some.ensures at (judged_sound _ _ l.octets l.size (rw l.said at l.whole) (c.mark_entries.ensures.holds c.if-not-mark_entries.false)
+    rw c.in-Some.ensures at (judged_sound _ _ l.octets l.size (rw l.said at l.device.whole) (c.mark_entries.ensures.holds c.if-not-mark_entries.false)
     (c.unused_ok.ensures.0 c.if-not-unused_ok.false) _ (rw l.counted at c.columns_ok.ensures))

@@ -1,5 +1,5 @@
 -- `marks::HeldCells::mark_task` meets its contract. The invariant: the blocks passed fit, and are marked. Assumes nothing.
-use Rattle.marks.specs.Device.{as_device}
+use Rattle.record.specs.Device.{as_device}
 use Rattle.marks.specs.Laws.Marks.{TaskMarking}
 use Rattle.marks.proofs.HeldCells.mark_task.Given as goal
 

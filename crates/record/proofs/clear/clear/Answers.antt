@@ -11,11 +11,11 @@ loop-c-init c = opened_none _ c.args.record.now _ _ (omega arith) (c.fill.ensure
 pub open_column-requires : goal.open_column-requires
 unfolding columns kind
 open_column-requires c =
-    let q = few_kinds _ _ c.requires in
-    (opened_closed _ _ _ c.loop-c.invariant (omega arith), few_rows _ _ c.requires, small_kind _ _ c.requires c.loop-c.c)
+    let q = few_kinds _ _ c.args.device.whole in
+    (opened_closed _ _ _ c.loop-c.invariant (omega arith), few_rows _ _ c.args.device.whole, small_kind _ _ c.args.device.whole c.loop-c.c)
 
 pub loop-c-preserved : goal.loop-c-preserved
 unfolding columns kind
 loop-c-preserved c =
-    let q = few_kinds _ _ c.requires in
+    let q = few_kinds _ _ c.args.device.whole in
     rw (c.open_column.ensures, add-one) (opened_more _ _ _ c.loop-c.invariant (omega arith) _ refl (omega arith))

@@ -28,8 +28,8 @@ returns-then-not-zeros c =
     let rest = rw (c.entry_at-at.ensures, task_length _ _ x h _ i) at c.zeros.ensures in
     judged_no (is_false (sound _) (λ s. not_from_Decides _ rest c.if-not-zeros.true (rest_unused _ s _ x)))
 
-pub mark_task-requires-clause-position : goal.mark_task-requires-clause-position
-mark_task-requires-clause-position c = entry_position _ _ _ c.args.self.now.octets c.in-Some.ensures.1
+pub mark_task-requires : goal.mark_task-requires
+mark_task-requires c = entry_position _ _ _ c.args.self.now.octets c.in-Some.ensures.1
 
 pub returns : goal.returns
 returns c =
