@@ -1,5 +1,5 @@
 -- Lists of runs (MODEL 10.3) that are brought down, written to, and met with the intervals of a column, as the contracts say it. Assumes nothing.
-use Rattle.std.specs.Prelude.{ℕ, ◌-◌, ◌*◌, ◌+◌, ◌≤◌, ◌<◌, ◌≡◌, ◌⊎◌, List, length, All, None}
+use Rattle.std.specs.Prelude.{ℕ, ◌-◌, ◌*◌, ◌+◌, ◌≤◌, ◌<◌, ◌≡◌, ◌⊎◌, List, length, slice_get, All, Some, None}
 use Rattle.runs.specs.Runs.{Run, run, Mem, Canon, push}
 use Rattle.runs.specs.Intervals.{Interval, Apart, Multiple, OnGrid}
 use Rattle.runs.specs.Meet.{Step, Proper, Lcm, Both_of, Spaced, Meeting}
@@ -26,7 +26,7 @@ IsLifted r = (lift ≤ r.first) × (lift ≤ r.last)
 pub record Pushable (L : List Run) (r : Range) : Type 0 where
   pub fits : length (push r.step (run r.first r.last) L) ≤ max_runs
   pub step : r.step < words
-  pub ends : All (λ (q : Run). q.last < words) L
+  pub last : (q : Run) → slice_get L (length L - 1) ≡ Some q → q.last < words
 
 -- and for what two ranges both name
 pub record Puttable (L : List Run) (a b : Range) : Type 0 where

@@ -2,6 +2,7 @@
 use Rattle.std.specs.Prelude.{ℕ, zero, suc, ◌+◌, ◌-◌, ◌*◌, ◌≤◌, ◌<◌, ◌≡◌, refl, ◌⊎◌, List, [], ◌∷◌, length, get_or, drop}
 use Rattle.std.proofs.Common.{sym, ap, ◌∙◌, inl, inr, arith, add-one, add-zero, drop-cons}
 use Rattle.std.proofs.lemmas.List.{drop_all}
+use Rattle.std.proofs.lemmas.Option.{slice_get_within, get_or_from_slice_get}
 use Rattle.runs.specs.Runs.{Run, run, Mem, push}
 use Rattle.runs.specs.Intervals.{Interval, interval, Multiple, OnGrid}
 use Rattle.runs.specs.Meet.{Step, Proper, Lcm, Both_of}
@@ -11,7 +12,7 @@ use Rattle.runs.specs.Laws.Canon.{from_weaken}
 use Rattle.runs.specs.Laws.Lcm.{lcm_unique, product_small}
 use Rattle.runs.specs.Laws.Both.{Walk, Put, is_in_both, both_steps, written_met, pass_left, pass_right, walk_start, walk_done, written_of}
 use Rattle.runs.specs.declared.Range.{Range}
-use Rattle.model.specs.Limits.{words, max_rows, reach}
+use Rattle.model.specs.Limits.{max_rows, reach}
 use Rattle.model.specs.Columns.{height}
 use Rattle.model.specs.Tasks as model
 use Rattle.model.proofs.Laws.Columns.{height_two, height_ten}
@@ -20,7 +21,7 @@ use Rattle.column.specs.declared.Interval.{Interval as Read}
 use Rattle.listing.specs.Bottoms.{lift, bottoms_in, range_in, bottoms}
 use Rattle.listing.specs.Lists.{range, Pushable, Puttable, Joined, Meetable, Met}
 use Rattle.listing.specs.Laws.Bottoms.{bottoms_none, bottoms_short, bottoms_tall, bottoms_from, bottoms_spaced}
-use Rattle.listing.specs.Laws.Lists.{steps_at, ends_named, ends_all, few_runs}
+use Rattle.listing.specs.Laws.Lists.{steps_at, ends_named, few_runs}
 
 pub height_step : (k : ℕ) → Step (height k)
 height_step k = omega (arith, height_two k, multiple_le (height k) 10 (omega arith) (height_ten k))
@@ -164,7 +165,10 @@ module _ (part : List ℕ) (count : ℕ) (k : model.Block) (A : List Run) (s : �
             fits = few_runs e.step (push e.step (run e.first e.last) O) (two e.step c.lcm) made.canon
                 (λ y n. m.bound y (written_of s h A B e.step _ y (push e.step (run e.first e.last) O) made n));
             step = omega (arith, c.lcm.small, product_small s h m.step (height_step k.kind));
-            ends = λ n d l. (ends_all (λ y. y < words) e.step 0 O v.written.canon (λ y n. omega (arith, m.bound y (written_of s h A B e.step v.n y O v.written n))) n d l).1;
+            last = λ q is.
+                let i = length O - 1 in
+                let named = rw (get_or_from_slice_get O i q q is) at (ends_named e.step 0 O v.written.canon i q (slice_get_within O i q is)).1 in
+                omega (arith, m.bound q.last (written_of s h A B e.step v.n q.last O v.written named));
           }
 
       -- c and d are the code's ranges of the two
