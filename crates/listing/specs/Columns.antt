@@ -1,5 +1,5 @@
 -- MODEL 10: what the contracts of this crate say of a task in one column of a sound record. Assumes nothing.
-use Rattle.std.specs.Prelude.{ℕ, ◌+◌, ◌<◌, ◌≡◌, true, List}
+use Rattle.std.specs.Prelude.{ℕ, ◌+◌, ◌<◌, ◌≡◌, true, List, []}
 use Rattle.runs.specs.Runs.{Run, runs}
 use Rattle.model.specs.Columns.{Device, columns, half_rows, kind}
 use Rattle.model.specs.Tasks.{blocks, block, step, sized, well_formed}
@@ -7,6 +7,11 @@ use Rattle.model.specs.Book.{Book, fits}
 use Rattle.model.specs.Record.{device_of, book_of}
 use Rattle.model.specs.Sound.{sound}
 use Rattle.listing.specs.Bottoms.{Standing}
+use Rattle.listing.specs.declared.columns.Room.{Room}
+
+-- the two lists of a room are without runs
+abbrev pub AreEmpty : Room → Type 0
+AreEmpty r = (r.now ≡ []) × (r.next ≡ [])
 
 -- a sound record, and a well-formed task
 pub record Given (r t : List ℕ) : Type 0 where

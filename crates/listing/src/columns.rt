@@ -4,7 +4,7 @@ ghost use Rattle.model.specs.Limits.{max_columns};
 ghost use Rattle.model.specs.Tasks.{blocks};
 ghost use Rattle.model.specs.Record.{device_of, book_of};
 ghost use Rattle.listing.specs.Lists.{max_runs};
-ghost use Rattle.listing.specs.Columns.{On, OnEach, FirstStanding, AllStanding, ranges_in};
+ghost use Rattle.listing.specs.Columns.{AreEmpty, On, OnEach, FirstStanding, AllStanding, ranges_in};
 
 use crate::LIFT;
 use crate::run::{Run, Runs};
@@ -21,7 +21,10 @@ pub struct Room {
 }
 
 impl Room {
-    pub fn new() -> Room {
+    // Both lists are empty.
+    pub fn new() -> Room
+        ensures { AreEmpty result }
+    {
         Room {
             now: Runs::new(),
             next: Runs::new(),
@@ -91,6 +94,7 @@ impl InColumn<'_> {
         let mut now = &mut room.now;
         let mut next = &mut room.next;
         let mut step = self.start(now);
+        // By the block's number, by which it is read. A turn changes the step and both lists, which a fold would have to hand on as one.
         for k in 0..self.task.count() {
             step = self.meet_next(k, step, now.as_slice(), next);
             mem::swap(&mut now, &mut next);
