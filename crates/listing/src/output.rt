@@ -21,7 +21,8 @@ struct Place {
     step: u8,
 }
 
-// The output of a listing, and how many ranges stand in it. The clauses `same_output` say that it stays the one that `list` was lent.
+// The output of a listing, and how many ranges stand in it: a slice and a count, since what is lent is longer than what is written, and keeps what it
+// had behind that (MODEL 12.6). The clauses `same_output` say that it stays the one that `list` was lent.
 #[derive(Drop)]
 struct Listing<'a> {
     output: &'a mut [u8],
@@ -68,6 +69,7 @@ pub fn list(record: SoundRecord, task: Task, output: &mut [u8]) -> Option<u16>
     // A step is at most 10, and a column below 64: each fits its byte.
     let step = task.step() as u8;
     let mut listing = Listing { output, count: 0 };
+    // By the column's number, which stands in each of its ranges (MODEL 10.6).
     for column in 0..record.columns() {
         let ranges = column_ranges(record, task, column, &mut room);
         let column = column as u8;

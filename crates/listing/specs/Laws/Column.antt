@@ -1,14 +1,14 @@
 -- MODEL 10.4: a task in one column of a sound record, what the walks need of the record, and the model's ranges at the end. Assumes nothing.
-use Rattle.std.specs.Prelude.{ℕ, ◌+◌, ◌-◌, ◌*◌, ◌/◌, ◌≤◌, ◌<◌, ◌≡◌, ◌↔◌, refl, Bool, true, false, MatchBool, List, [], map, length, All}
+use Rattle.std.specs.Prelude.{ℕ, ◌+◌, ◌*◌, ◌≤◌, ◌<◌, ◌≡◌, ◌↔◌, refl, Bool, true, false, MatchBool, List, [], map, length, All}
 use Rattle.std.specs.List.{AllWithin, HoldsAt, range_with_len}
 use Rattle.std.proofs.lemmas.List.FromFn.{length-range_with_len, get_or-range_with_len}
-use Rattle.std.proofs.Common.{sym, subst, arith, add-one, zero-add, div-add-mod'}
+use Rattle.std.proofs.Common.{sym, subst, arith, add-one, zero-add}
 use Rattle.std.proofs.lemmas.Bool.{false≢true}
 use Rattle.std.proofs.Math.ListN.{get_or}
 use Rattle.runs.specs.Runs.{Run}
 use Rattle.runs.specs.Intervals.{Interval}
 use Rattle.runs.specs.Meet.{Step, Lcm}
-use Rattle.model.specs.Limits.{block_size, max_blocks, max_kind, max_columns, max_rows}
+use Rattle.model.specs.Limits.{block_size, max_blocks, max_kind, max_columns}
 use Rattle.model.specs.Columns.{Device, columns, kind, height}
 use Rattle.model.specs.Tasks.{blocks, block, sized, well_formed}
 use Rattle.model.specs.Tasks as model
@@ -70,12 +70,6 @@ on_each r t p n true e h = (λ u k l. let b : k < n = omega arith in rw (get_or-
 on_each r t p n false e (k, l, h) =
     let b : k < n = rw length-range_with_len at l in
     (λ u. absurd (false≢true u), λ f. absurd ((rw (get_or-range_with_len 0 n k 0 b, zero-add) at (h 0)) (f k (omega arith))))
-
--- ---- the start of the list
-
--- 255 rounded down to a step is in reach
-pub start_small : (s : ℕ) → 1 ≤ s → (2 * max_rows - 1) / s * s ≤ 2 * max_rows - 1
-start_small s p = omega (arith, div-add-mod' (2 * max_rows - 1) s)
 
 -- ---- one block more
 

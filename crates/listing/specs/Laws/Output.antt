@@ -6,7 +6,7 @@ use mathlib.Core.List.{List, [], ◌∷◌, ◌++◌, map, append-nil}
 use borrow.Author.Tests.{le-ltb}
 use Rattle.std.proofs.Math.Numerals.{add-one}
 use Rattle.std.proofs.Math.ListN.{length, length-append}
-use Rattle.std.proofs.lemmas.List.{length-map, length-take, take_more, take_all}
+use Rattle.std.proofs.lemmas.List.{length-map, length-take, take_more}
 use Rattle.runs.specs.Runs.{Run, run}
 use Rattle.runs.specs.Laws.Runs.{runs_lists}
 use Rattle.model.specs.Limits.{words, range_size, list_room}
@@ -93,9 +93,6 @@ module _ (o₀ : List ℕ) (n p s : ℕ) (L : List Run) (w : AllWritable (length
         let v : range_size * (i + 1) ≡ range_size * i + range_size = omega arith in
         h ∙ rw (e, u, v, column_more p s i L q l is)
         (splice_more o₀ (range_size * n) (range_size * i) range_size (column_bytes p s (take i L)) (range_bytes (range_of p s q)) (omega (arith, w.room)) (written_first i (omega arith)))
-
-  pub writing_done : (o : List ℕ) → Writing o₀ n p s L (length L) o → o ≡ splice o₀ (range_size * n) (range_size * length L) (column_bytes p s L)
-  writing_done o e = rw (take_all (length L) L (omega arith)) at e
 
 -- ---- all columns
 
