@@ -63,21 +63,34 @@ impl Place {
 }
 
 impl Rating {
-    // One block, which stands in `home`. If it is joined there to the block before it, that one has counted the home's height, and the piece
-    // between the two is the one above that block.
-    fn of(joined: bool, block: Interval, home: Interval) -> Rating
+    // One block, the first in its home.
+    fn first(block: Interval, home: Interval) -> Rating
         requires { Housed block home }
-        ensures is { Alone joined block home result }
+        ensures is { Alone false block home result }
         ensures few { result.score.pieces ≤ 2 }
         ensures short { result.score.stretch ≤ 2 * max_rows }
     {
-        let below = !joined && home.bottom < block.bottom;
-        let above = block.top < home.top;
-        let height = if joined { 0 } else { home.top - home.bottom };
         Rating {
             score: Score {
-                pieces: u32::from(below) + u32::from(above),
-                stretch: height,
+                pieces: u32::from(home.bottom < block.bottom) + u32::from(block.top < home.top),
+                stretch: home.top - home.bottom,
+            },
+            room: home.top - block.top,
+        }
+    }
+
+    // One block that is joined in its home to the block before it. That one has counted the home's height, and the piece between the two is the one
+    // above that block.
+    fn joined(block: Interval, home: Interval) -> Rating
+        requires { Housed block home }
+        ensures is { Alone true block home result }
+        ensures few { result.score.pieces ≤ 2 }
+        ensures short { result.score.stretch ≤ 2 * max_rows }
+    {
+        Rating {
+            score: Score {
+                pieces: u32::from(block.top < home.top),
+                stretch: 0,
             },
             room: home.top - block.top,
         }
@@ -108,7 +121,7 @@ impl Tally {
     {
         let home = block.home(record);
         Tally {
-            rating: Rating::of(false, block.rows, home.rows),
+            rating: Rating::first(block.rows, home.rows),
             last: home,
         }
     }
@@ -125,10 +138,10 @@ impl Tally {
         let so_far = self.rating;
         // Each branch adds the block by itself, so that one that is joined costs no second test.
         if last.is_shared(block) {
-            self.rating = so_far.and(Rating::of(true, block.rows, last.rows));
+            self.rating = so_far.and(Rating::joined(block.rows, last.rows));
         } else {
             let home = block.home(record);
-            self.rating = so_far.and(Rating::of(false, block.rows, home.rows));
+            self.rating = so_far.and(Rating::first(block.rows, home.rows));
             self.last = home;
         }
     }
@@ -141,6 +154,7 @@ pub fn score_at(record: SoundRecord, task: Task, at: Position) -> Rating
     ensures { Scored (device_of «record».entry.bytes.now) (book_of «record».entry.bytes.now) task.entry.bytes.now at.column at.bottom result }
 {
     let mut tally = Tally::new(record, Place::new(task.extent(0), at));
+    // By the block's number, by which it is read: block 0 has begun the tally.
     for k in 1..task.count() {
         tally.add_block(record, Place::new(task.extent(k), at));
     }
