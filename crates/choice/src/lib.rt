@@ -6,7 +6,7 @@
 mod score; // n and s, and the better of two positions
 mod tally; // the score of a position, block by block
 
-ghost use Rattle.std.specs.Prelude.{◌≡◌, suc, ◌<◌, true};
+ghost use Rattle.std.specs.Prelude.{◌≡◌, suc, ◌<◌};
 ghost use Rattle.runs.specs.Meet.{Step};
 ghost use Rattle.model.specs.Limits.{max_columns, words};
 ghost use Rattle.model.specs.Columns.{half_rows};
@@ -93,6 +93,7 @@ pub fn best_position(record: SoundRecord, task: Task) -> Option<Choice>
     };
     let mut room = Room::new();
     let mut best = None;
+    // By the column's number, which is part of a position. A turn writes `room` beside `best`, which a fold would hide in what it captures.
     for column in 0..record.columns() {
         best = search.climb_column(column, &mut room, best);
     }

@@ -9,7 +9,7 @@ use Rattle.runs.specs.Laws.Tests.{lt_or_ge}
 use Rattle.runs.specs.Runs.{Run, run, Mem, Lists}
 use Rattle.runs.specs.Laws.Runs.{runs_lists}
 use Rattle.runs.specs.Laws.Places.{run_named, run_at, none_before, none_between, next_above, start_past}
-use Rattle.model.specs.Limits.{max_columns, columns_at, column_weight}
+use Rattle.model.specs.Limits.{column_weight}
 use Rattle.model.specs.Columns.{Device, columns, half_rows}
 use Rattle.model.specs.Tasks.{blocks, well_formed, step}
 use Rattle.model.specs.Book.{Book, fits}
@@ -21,13 +21,13 @@ use Rattle.model.proofs.Laws.Fits.{fits_below}
 use Rattle.model.proofs.Laws.Step.{choose_none}
 use Rattle.model.proofs.Laws.Steps.{step_bounds, fits_steps}
 use Rattle.model.proofs.Laws.Limits.{limits_to}
-use Rattle.model.proofs.Laws.Sound.{columns_said, sound_within}
+use Rattle.model.proofs.Laws.Sound.{sound_within}
 use Rattle.model.proofs.Laws.Climb.{climb_none}
 use Rattle.model.proofs.Laws.Ends.{chosen_at}
 use Rattle.model.proofs.Laws.NoPosition.{chosen_nothing_iff}
 use Rattle.listing.specs.Columns.{Given, ranges_in}
 use Rattle.listing.specs.Lists.{range}
-use Rattle.listing.specs.Laws.Column.{given_of, some_columns, few_columns, some_blocks}
+use Rattle.listing.specs.Laws.Column.{given_of, some_blocks}
 use Rattle.runs.specs.declared.Range.{Range}
 use Rattle.choice.specs.declared.Search.{Search}
 use Rattle.choice.specs.Choosing.{Is, Climbed, FitsRange, Chooses}
@@ -150,10 +150,6 @@ module _ (d : Device) (b : Book) (t : List ℕ) where
   pub best_next : (p : ℕ) (e e' : Option Choice) → p < columns d → Best_of d b t p e → Climbed (judge d b t) p 0 (half_rows d) e e' → Best_of d b t (p + 1) e'
   unfolding choice climb
   best_next p e e' l h g = rw add-one (record { within = l; is = g (choice (judge d b t) (half_rows d) p) h.is })
-
--- the column count that a sound record says is the device's, and not 0
-pub column_count : (r t : List ℕ) → Given r t → (n : ℕ) → n ≡ get_or r columns_at 0 → (n ≡ columns (device_of r)) × (1 ≤ n) × (n ≤ max_columns)
-column_count r t a n e = omega (arith, columns_said r, some_columns r a.sound, few_columns r a.sound)
 
 -- choose on the book where a position fits
 chosen_number : (r t : List ℕ) → Given r t → (q z : ℕ) → no_position (device_of r) (book_of r) t ≡ false → chosen (device_of r) (book_of r) t ≡ at q z
