@@ -1,5 +1,5 @@
 // MODEL 22.3: the connected sets of a sound record. Each interval begins as a set of its own, and each join of two sets leaves one less.
-ghost use Rattle.std.specs.Prelude.{◌≡◌, ◌*◌, ◌≤◌};
+ghost use Rattle.std.specs.Prelude.{◌≡◌, ◌*◌, ◌≤◌, length};
 ghost use Rattle.model.specs.Limits.{max_columns, max_intervals};
 ghost use Rattle.model.specs.Columns.{columns as columns_of};
 ghost use Rattle.model.specs.Fragments.{heights, connected_sets};
@@ -23,12 +23,13 @@ fn total(record: SoundRecord) -> usize
 
 // Joins what touches in all neighbouring columns. The nodes of a column follow those of the column on its left.
 #[tactic(auto, using(crate::specs::Laws::OnBytes::some_column, crate::specs::Laws::OnBytes::base_few))]
-fn join_all<const N: usize>(forest: &mut Forest<N>, record: SoundRecord) -> u32
-    requires { base_of (runs_of «record».bytes.now) (columns_of (device_of «record».bytes.now)) ≤ N }
-    ensures { Joins (card_edges (heights (device_of «record».entry.bytes.now)) (runs_of «record».entry.bytes.now) (columns_of (device_of «record».entry.bytes.now))) forest.old.parents forest.new.parents result }
+fn join_all(forest: &mut Forest<'_>, record: SoundRecord) -> u32
+    requires { base_of (runs_of «record».bytes.now) (columns_of (device_of «record».bytes.now)) ≤ length forest.old.parents.now }
+    ensures { Joins (card_edges (heights (device_of «record».entry.bytes.now)) (runs_of «record».entry.bytes.now) (columns_of (device_of «record».entry.bytes.now))) forest.old.parents.now forest.new.parents.now result }
 {
     let mut joins = 0;
     let mut base = 0;
+    // over an index: neighbours are two columns, of which one has the next number
     for c in 0..record.columns() - 1 {
         let left = record.column(c);
         joins += sweep(forest, left, record.column(c + 1), base);
@@ -42,7 +43,8 @@ pub fn count_sets(record: SoundRecord) -> u32
     ensures sets { result ≡ connected_sets (device_of «record».entry.bytes.now) (book_of «record».entry.bytes.now) }
     ensures few { result ≤ max_columns * max_intervals }
 {
-    let mut forest = Forest::<NODES>::new();
+    let mut parents = [0u16; NODES];
+    let mut forest = Forest::new(&mut parents);
     let n = total(record);
     forest.set_apart(n);
     // as: no more than max_columns * max_intervals, by the clause of `total`

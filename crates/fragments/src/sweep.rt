@@ -1,5 +1,5 @@
 // MODEL 22.1: two neighbouring columns. One pointer goes along the intervals of each, and those that share a half row become one set.
-ghost use Rattle.std.specs.Prelude.{◌≡◌, ◌+◌, ◌≤◌, ◌<◌};
+ghost use Rattle.std.specs.Prelude.{◌≡◌, ◌+◌, ◌≤◌, ◌<◌, length};
 ghost use Rattle.std.specs.Int.{from_bool};
 ghost use Rattle.runs.specs.Intervals.{interval};
 ghost use Rattle.sets.specs.Forest.{Joins};
@@ -26,23 +26,20 @@ impl Node {
 }
 
 // Makes one set of the sets of two intervals if these share a half row. The answer is whether they were two sets.
-fn meet<const N: usize>(forest: &mut Forest<N>, x: Node, y: Node) -> bool
-    requires { (x.number < N) × (y.number < N) }
-    ensures { Joins (edge_if (sharing (interval x.rows.bottom x.rows.top) (interval y.rows.bottom y.rows.top)) (x.number, y.number)) forest.old.parents forest.new.parents (from_bool result) }
+fn meet(forest: &mut Forest<'_>, x: Node, y: Node) -> bool
+    requires { (x.number < length forest.old.parents.now) × (y.number < length forest.old.parents.now) }
+    ensures same_reference { forest.new.parents.ghost_name ≡ forest.old.parents.ghost_name }
+    ensures joins { Joins (edge_if (sharing (interval x.rows.bottom x.rows.top) (interval y.rows.bottom y.rows.top)) (x.number, y.number)) forest.old.parents.now forest.new.parents.now (from_bool result) }
 {
     x.shares(y) && forest.unite(x.number, y.number)
 }
 
 // Makes one set of the sets of every two intervals that share a half row. `base` is the node of the first interval on the left; those on the right
 // follow. The answer is how often two sets became one.
-pub fn sweep<const N: usize>(
-    forest: &mut Forest<N>,
-    left: Column,
-    right: Column,
-    base: usize,
-) -> u32
-    requires { base + left.count + right.count ≤ N }
-    ensures joins { Joins (edges (sides left.entry.part.now right.entry.part.now left.entry.count right.entry.count base)) forest.old.parents forest.new.parents result }
+pub fn sweep(forest: &mut Forest<'_>, left: Column, right: Column, base: usize) -> u32
+    requires { base + left.count + right.count ≤ length forest.old.parents.now }
+    ensures same_reference { forest.new.parents.ghost_name ≡ forest.old.parents.ghost_name }
+    ensures joins { Joins (edges (sides left.entry.part.now right.entry.part.now left.entry.count right.entry.count base)) forest.old.parents.now forest.new.parents.now result }
     ensures few { result ≤ left.entry.count + right.entry.count }
 {
     let mut joins = 0;

@@ -1,6 +1,6 @@
 -- MODEL 22.1: the sweep finds exactly the pairs that share a half row. Assumes nothing.
 use Rattle.std.specs.Int.{from_bool}
-use Rattle.std.specs.Prelude.{◌≡◌, ◌⊎◌, Bool, true, cond, not, ◌&&◌, leb, eqb}
+use Rattle.std.specs.Prelude.{◌≡◌, ◌⊎◌, Bool, true, cond, not, ◌&&◌, leb, eqb, length}
 use Rattle.std.proofs.Math.Path.{refl, ap}
 use Rattle.std.proofs.Common.{sym, ◌∙◌, inl, inr, true≢false, add-one}
 use Rattle.std.proofs.Math.Logic.{⊎_elim}
@@ -16,7 +16,7 @@ use Rattle.model.proofs.Laws.Bounded.{and_to}
 use Rattle.sets.specs.Graph.{In}
 use Rattle.sets.specs.Forest.{unions, merges, union, root, Joins}
 use Rattle.sets.specs.Laws.Lists.{in_right, each_append}
-use Rattle.sets.specs.Laws.Unions.{unions_append, merges_append}
+use Rattle.sets.specs.Laws.Unions.{length_unions, unions_append, merges_append}
 use Rattle.fragments.specs.Sweep.{Sides, Shares, shares, edge, edge_if, swept, edges_from, edges, Sweeping, Alike}
 
 shares_to : (x y : Interval) → shares x y ≡ true → Shares x y
@@ -144,6 +144,9 @@ joins_one t i j P Q b h q e = rw (h, e) record { parents_are = q; count_is = cou
     count true = refl
     count false = refl
 
+pub joins_length : (E : List (ℕ × ℕ)) (P Q : List ℕ) (n : ℕ) → Joins E P Q n → length Q ≡ length P
+joins_length E P Q n j = ap length j.parents_are ∙ length_unions P E
+
 -- ---- the loop
 
 module _ (S : Sides) (P₀ : List ℕ) where
@@ -152,6 +155,9 @@ module _ (S : Sides) (P₀ : List ℕ) where
   sweeping_start = record { in_left = omega arith; in_right = omega arith; few = omega arith; parents_are = refl; count_is = omega arith }
 
   module _ (P : List ℕ) (n i j : ℕ) (w : Sweeping S P₀ P n i j) where
+    pub sweeping_length : length P ≡ length P₀
+    sweeping_length = sym (length_unions P (edges_from S i j)) ∙ ap length w.parents_are ∙ length_unions P₀ (edges S)
+
     pub sweeping_end : (S.lefts ≤ i) ⊎ (S.rights ≤ j) → Joins (edges S) P₀ P n
     unfolding unions merges
     sweeping_end h =

@@ -3,4 +3,4 @@ use Rattle.fragments.specs.OnBytes.{Walking}
 use Rattle.fragments.proofs.connected.join_all.Given as goal
 
 abbrev pub invariant-loop-c : goal.invariant-loop-c
-invariant-loop-c g l = Walking l.record.bytes.now l.initial.forest.parents l.forest.parents l.joins l.base l.c
+invariant-loop-c l = Walking l.record.bytes.now l.initial.forest.parents.now l.forest.parents.now l.joins l.base l.c

@@ -1,10 +1,10 @@
 -- `fragments::sweep::sweep` meets its contract. Assumes nothing.
-use Prim.Native.Nat.{◌+◌, ◌-◌}
+use Rattle.std.proofs.Common.{◌≡◌, ◌+◌, ◌-◌}
 use Rattle.fragments.specs.Sweep.{sides, Sweeping}
 use Rattle.fragments.proofs.sweep.sweep.Given as goal
 
 abbrev pub invariant-loop-i : goal.invariant-loop-i
-invariant-loop-i g l = Sweeping (sides l.left.part.now l.right.part.now l.left.count l.right.count l.base) l.initial.forest.parents l.forest.parents l.joins l.i l.j
+invariant-loop-i l = (l.forest.parents.ghost_name ≡ l.initial.forest.parents.ghost_name) × Sweeping (sides l.left.part.now l.right.part.now l.left.count l.right.count l.base) l.initial.forest.parents.now l.forest.parents.now l.joins l.i l.j
 
 abbrev pub decreases-loop-i : goal.decreases-loop-i
-decreases-loop-i g l = l.left.count - l.i + (l.right.count - l.j)
+decreases-loop-i l = l.left.count - l.i + (l.right.count - l.j)
