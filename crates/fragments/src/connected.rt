@@ -27,10 +27,11 @@ fn join_all(forest: &mut Forest<'_>, record: SoundRecord) -> u32
     requires { base_of (runs_of «record».bytes.now) (columns_of (device_of «record».bytes.now)) ≤ length forest.old.parents.now }
     ensures { Joins (card_edges (heights (device_of «record».entry.bytes.now)) (runs_of «record».entry.bytes.now) (columns_of (device_of «record».entry.bytes.now))) forest.old.parents.now forest.new.parents.now result }
 {
+    let last = record.columns() - 1;
     let mut joins = 0;
     let mut base = 0;
     // over an index: neighbours are two columns, of which one has the next number
-    for c in 0..record.columns() - 1 {
+    for c in 0..last {
         let left = record.column(c);
         joins += sweep(forest, left, record.column(c + 1), base);
         base += left.count;

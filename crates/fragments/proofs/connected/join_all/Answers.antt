@@ -9,7 +9,7 @@ loop-c-init c = walking_start _ c.args.record.sound _
 
 pub sweep-joins-requires : goal.sweep-joins-requires
 sweep-joins-requires c =
-    let room = walking_room _ c.args.record.sound _ _ _ _ _ c.loop-c.invariant (omega (arith, c.columns-c-end.ensures.count)) in
+    let room = walking_room _ c.args.record.sound _ _ _ _ _ c.loop-c.invariant (omega (arith, c.columns-last.ensures.count)) in
     omega (arith, room, c.requires, c.column-left.ensures.count, c.column.ensures.count, joins_length _ _ _ _ c.loop-c.invariant.so_far)
 
 pub loop-c-preserved : goal.loop-c-preserved
@@ -17,7 +17,7 @@ loop-c-preserved c =
     let left = c.column-left.ensures in
     let right = c.column.ensures in
     let swept = rw (left.part, right.part, left.count, right.count) at c.sweep-joins.ensures in
-    rw left.count (walking_on _ c.args.record.sound _ _ _ _ _ c.loop-c.invariant (omega (arith, c.columns-c-end.ensures.count)) _ _ swept.few swept.joins)
+    rw left.count (walking_on _ c.args.record.sound _ _ _ _ _ c.loop-c.invariant (omega (arith, c.columns-last.ensures.count)) _ _ swept.few swept.joins)
 
 pub returns : goal.returns
-returns c = walking_end _ c.args.record.sound _ _ _ _ _ c.loop-c.invariant (omega (arith, c.columns-c-end.ensures.count))
+returns c = walking_end _ c.args.record.sound _ _ _ _ _ c.loop-c.invariant (omega (arith, c.columns-last.ensures.count))
