@@ -56,7 +56,7 @@ impl From<TaskFault> for Refusal {
     }
 }
 
-// Record and task come apart from C, and go so to the searches: a struct of both would be made here for each call, and hold nothing of its own.
+// Record and task come apart from C, and each search adds to them what it goes on with: a struct of the two alone would be taken apart by each.
 // MODEL 13.1: the refusals that list, choose and place share, −1, −2, −4 and −5.
 fn check_task<'a, 'b>(
     record: &'a [u8],

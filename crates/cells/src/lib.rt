@@ -39,7 +39,7 @@ fn span(base: u32, run: &Range<u32>) -> u64
     low(run.end.saturating_sub(base)) & !low(run.start.saturating_sub(base))
 }
 
-// Marks the cells of a run, word by word, and says whether none of them was held.
+// Marks the cells of a run, word by word, and says whether none of them was held. By the word's number, which says what its first cell is.
 #[tactic(auto, using(crate::specs::Laws::Marks::marking_start, crate::specs::Laws::Marks::marking_next, crate::specs::Laws::Marks::marking_end))]
 fn mark_words(words: &mut [u64], run: Range<u32>) -> bool
     requires { RunIn words.old run.start run.end }
@@ -131,7 +131,8 @@ impl ColumnBits<'_> {
         !word & low(self.cells.saturating_sub(first_cell(q)))
     }
 
-    // Writes the free intervals of the column into its part, which is all zeros, and answers how many they are.
+    // Writes the free intervals of the column into its part, which is all zeros, and answers how many they are. By the word's number: behind the last word
+    // there is one more, of zeros, in which the last interval ends.
     pub fn fill(self, part: &mut [u8]) -> usize
         requires { part.old ≡ column_part [] }
         ensures { PartIs part.new result (bit_intervals self.entry.words.now self.entry.cells self.entry.height) }

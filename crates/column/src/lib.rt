@@ -70,8 +70,8 @@ impl Column<'_> {
     }
 }
 
-// MODEL 12.4: cuts a run out of the intervals of a part. The answer is how many are left. Here and at `join` a part and its count come loose, since a
-// Column borrows its bytes for reading: a second type that borrows them for writing would serve these two and the one caller of both.
+// MODEL 12.4: cuts a run out of the intervals of a part. The answer is how many are left. Here and at `join` part and count come loose,
+// as they stand apart in the record: a struct of both would be made by their one caller, and taken apart by it to write the count back.
 pub fn cut(part: &mut [u8], count: usize, run: Interval) -> usize
     requires { Room (subtract run.bottom run.top) part.old count }
     ensures { Changed (subtract run.bottom run.top) part.old count part.new result }

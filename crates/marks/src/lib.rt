@@ -19,7 +19,7 @@ const COLUMN_WORDS: usize = MAX_ROWS as usize / 64; // `as`: in a constant std h
 
 const ALL_WORDS: usize = COLUMN_WORDS * MAX_COLUMNS;
 
-// The cells that are held, as the bits of all columns.
+// The cells that are held, as the bits of all columns: one array, and a column is a part of it, as a column of a record is of its bytes.
 #[derive(Drop)]
 pub struct HeldCells {
     pub words: [u64; ALL_WORDS],
@@ -88,7 +88,8 @@ impl HeldCells {
         mark(&mut self.words[words_at(c)], run)
     }
 
-    // Marks the blocks of a task that is moved to a position, up to the first that does not fit, and says whether all fit.
+    // Marks the blocks of a task that is moved to a position, up to the first that does not fit, and says whether all fit. By a loop: each block is
+    // marked in the words that the next is tested against, which an `all` would hide in its closure.
     #[tactic(auto, using(crate::specs::Laws::Marks::blocks_start, crate::specs::Laws::Marks::blocks_refused, crate::specs::Laws::Marks::blocks_next, crate::specs::Laws::Marks::blocks_end, task::specs::Laws::Blocks::same_seen, model::proofs::Laws::Tasks::solid_block))]
     pub fn mark_task(&mut self, device: Device, task: Task, at: Position) -> bool
         requires { EntryPosition at.column at.bottom }

@@ -31,7 +31,7 @@ fn columns_ok(columns: usize) -> bool
     (1..=MAX_COLUMNS).contains(&columns)
 }
 
-// Whether each is a kind byte.
+// Whether each is a kind byte. By the bytes: a Kind of each would be made and dropped.
 fn kinds_ok(kinds: &[u8]) -> bool
     ensures { result ≡ list_all (λ k. leb k max_kind) kinds.now }
 {
@@ -73,6 +73,6 @@ impl<'a> Device<'a> {
     pub fn has_kind(self, c: usize, kind: Kind) -> bool
         ensures { IsTrue result ↔ ((c < columns (as_device self.entry)) × (kind_of (as_device self.entry) c ≡ number_of kind)) }
     {
-        c < self.kinds.len() && self.kinds[c] == u8::from(kind)
+        c < self.kinds.len() && self.kinds[c] == u8::from(kind) // as bytes: any byte is a kind's number or none
     }
 }

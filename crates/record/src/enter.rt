@@ -17,7 +17,7 @@ use column::cut;
 use model::RECORD_SIZE;
 use task::{Position, Task};
 
-// Takes a task's cells.
+// Takes a task's cells. By a loop, here and where they are freed: each block changes the record of the next.
 #[tactic(auto, using(crate::specs::Laws::Enter::taken_first, crate::specs::Laws::Enter::seated, crate::specs::Laws::Enter::taken_last))]
 fn take_blocks(record: &mut [u8; RECORD_SIZE], task: Task<'_>, at: Position)
     requires { Placeable «record».old task.bytes.now at.column at.bottom }

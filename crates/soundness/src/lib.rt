@@ -1,6 +1,6 @@
 // MODEL 9: whether bytes are a sound record, in one pass over them. The cells that the running tasks hold are marked as bits, no cell twice, and
 // the clear bits of each column are compared with its intervals.
-// It says what `record::sound` says, and takes its place in a change of its own: the laws and the wrong programs of the other go then.
+// It is another algorithm for what `record::sound` says, and takes its place in a change of its own: the laws and the wrong programs of the other go then.
 #![tactic(auto)]
 
 ghost use Rattle.std.specs.Prelude.{◌≡◌, ◌↔◌, ◌+◌, ◌≤◌, ◌<◌, IsTrue, MatchOption, EachIndex, slice_index, length, get_or, replicate, true, false};
@@ -45,18 +45,6 @@ struct Marked<'a> {
     legible: Legible<'a>,
     held: &'a HeldCells,
     ghost tasks: { TasksHeld legible.bytes.now held.now.words (get_or legible.bytes.now running_at 0) },
-}
-
-// Are two slices of one length equal? The loop has no exit but its end, so that it vectorises where it is called.
-fn same(a: &[u8], b: &[u8]) -> bool
-    requires { length a.now ≡ length b.now }
-    ensures { IsTrue result ↔ EachIndex a.now (λ k. slice_index a.now k ≡ slice_index b.now k) }
-{
-    let mut same = true;
-    for (x, y) in a.iter().zip(b) {
-        same &= x == y;
-    }
-    same
 }
 
 impl<'a> Legible<'a> {
@@ -117,7 +105,7 @@ impl<'a> Legible<'a> {
         held.mark_task(self.device, entry.task, entry.at)
     }
 
-    // The same for all running entries, up to the first that is not one of a sound record.
+    // The same for all running entries, up to the first that is not one of a sound record. By a loop, as `mark_task` is.
     fn mark_entries(&self, held: &mut HeldCells) -> bool
         requires { TasksHeld self.now.bytes.now held.old.words 0 }
         ensures { Judged self.now.bytes.now (TasksHeld self.now.bytes.now held.new.words (get_or self.now.bytes.now running_at 0)) result }
@@ -136,7 +124,8 @@ impl<'a> Legible<'a> {
         ensures { IsTrue result ↔ ((part self.now.bytes.now (column_at c) column_size ≡ listed.now) × (count_of self.now.bytes.now c ≡ count)) }
     {
         let bytes = self.bytes;
-        usize::from(bytes[COUNTS_AT + c]) == count && same(&bytes[part_at(c)], listed)
+        let part = &bytes[part_at(c)];
+        usize::from(bytes[COUNTS_AT + c]) == count && part == listed.as_slice()
     }
 }
 
@@ -180,7 +169,7 @@ impl Marked<'_> {
         self.legible.has(c, &lower, n) && self.legible.has(c + 1, &upper, m)
     }
 
-    // The same for all columns.
+    // The same for all columns. By a loop: columns are counted in pairs, and the last may be alone.
     fn columns_ok(&self) -> bool
         ensures { IsTrue result ↔ ColumnsOk self.now.legible.bytes.now (length self.now.legible.device.kinds.now) }
     {

@@ -43,7 +43,7 @@ pub enum TaskFault {
 }
 
 // MODEL 6.1: where a task is placed: its first block's column, and what its blocks are moved up by.
-// It stands beside its task in what places one: a placed task as a type of its own would be made at each call and taken apart in it.
+// It stands beside its task in what tries one: a task that runs has a number too (an entry of a record), and one that is tried has none.
 #[derive(Clone, Copy)]
 pub struct Position {
     pub column: usize,
@@ -258,7 +258,8 @@ pub fn well_formed(task: &[u8]) -> bool
 }
 
 // MODEL 10.1: the step of a task.
-// Two flags of one loop: an `any` for each would go over the blocks twice.
+// Two flags of one loop over the blocks' kind bytes: bytes of any value have a step, so they are not read as blocks, and an `any` for each flag would
+// count the blocks twice.
 #[tactic(auto, unfolding(model::specs::Tasks::blocks, model::specs::Tasks::block, model::specs::Tasks::step, model::specs::Bounded::any_below))]
 pub fn step(task: &[u8]) -> u32
     ensures { result ≡ step task.now }

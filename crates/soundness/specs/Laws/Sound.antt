@@ -13,7 +13,7 @@ use Rattle.model.specs.Columns.{top, device_ok}
 use Rattle.model.specs.Book.{held, free, intervals}
 use Rattle.model.specs.Record.{part, column_at, entry_at, listed_intervals, device_of, book_of}
 use Rattle.model.specs.Sound.{count_of, used, sound}
-use Rattle.model.proofs.Laws.Bounded.{is_false, same_test}
+use Rattle.model.proofs.Laws.Bounded.{is_false, clash}
 use Rattle.model.proofs.Laws.Columns.{top_le}
 use Rattle.model.proofs.Laws.Parts.{part_byte}
 use Rattle.model.proofs.Laws.Limits.{limits_to}
@@ -31,7 +31,7 @@ use Rattle.cells.specs.Laws.Bits.{digit_zero}
 use Rattle.cells.specs.Laws.Coded.{column_byte, length_coded, ends_length}
 use Rattle.marks.specs.Marks.{column_words, all_words}
 use Rattle.marks.specs.Laws.Marks.{few_columns}
-use Rattle.soundness.specs.Soundness.{TasksHeld, ColumnsOk, Unused}
+use Rattle.soundness.specs.Soundness.{Judged, TasksHeld, ColumnsOk, Unused}
 use Rattle.soundness.specs.Laws.Unused.{sound_unused}
 use Rattle.soundness.specs.Laws.Columns.{kinds_counted, all_within, sound_column}
 
@@ -95,10 +95,18 @@ module _ (r H : List ℕ) (n : length r ≡ record_size) (ok : device_ok (device
   })
 
 -- THEOREM: where entries and unused bytes are right, the columns' answer is the record's
-pub judged_sound : (r H : List ℕ) → Bytes r → length r ≡ record_size → device_ok (device_of r) ≡ true → TasksHeld r H (get_or r running_at 0) → Unused r
-    → (ok : Bool) → Decides ok (ColumnsOk r (get_or r columns_at 0)) → ok ≡ sound r
-judged_sound r H B n k m u ok j =
-    same_test ok (sound r) (λ t. all_sound r H n k m u (j.0 t)) (λ s. j.1 (λ c q. sound_column r B s c (omega (arith, few_columns (device_of r) k, kinds_counted r refl))))
+pub judged_sound : (r H : List ℕ) → length r ≡ record_size → device_ok (device_of r) ≡ true → TasksHeld r H (get_or r running_at 0) → Unused r
+    → (ok : Bool) → Judged r (ColumnsOk r (get_or r columns_at 0)) ok → ok ≡ sound r
+judged_sound r H n k m u true j = sym (all_sound r H n k m u (j.holds refl))
+judged_sound r H n k m u false j = sym (j.refused refl)
+
+-- a column that does not list its free intervals is none of a sound record
+pub columns_judged : (r : List ℕ) → Bytes r → device_ok (device_of r) ≡ true → (ok : Bool) → Decides ok (ColumnsOk r (get_or r columns_at 0))
+    → Judged r (ColumnsOk r (get_or r columns_at 0)) ok
+columns_judged r B k ok (to, of) = record {
+  holds = to;
+  refused = λ f. is_false (sound r) (λ s. clash (of (λ c q. sound_column r B s c (omega (arith, few_columns (device_of r) k, kinds_counted r refl)))) f);
+}
 
 -- a word of words that are all 0
 get_d_zeros : (n x : ℕ) → ◌≡◌ {A = ℕ} (get_or (replicate n 0) x 0) 0
