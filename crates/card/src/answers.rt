@@ -17,8 +17,7 @@ impl From<Chosen> for i32 {
     ghost from_gives = { λ at number. number ≡ position_of at };
 
     fn from(at: Chosen) -> i32 {
-        // `as`: a constant that fits
-        i32::from(at.column) * model::COLUMN_WEIGHT as i32 + i32::from(at.bottom)
+        i32::from(at.column) * model::COLUMN_WEIGHT.cast_signed() + i32::from(at.bottom)
     }
 }
 

@@ -3,7 +3,7 @@ ghost use Rattle.std.specs.Prelude.{◌≡◌};
 ghost use Rattle.card.specs.Refusals.{number_of};
 
 // The table but for its last row, which is the sheet's. `DeviceOrColumn` is new's for what is no device, and the interval count's for a column
-// that the device does not have.
+// that the device does not have. No `Display`: its number is what crosses to C and what is printed, and it has no other text.
 #[derive(Clone, Copy, Debug, PartialEq, Eq)]
 pub enum Refusal {
     RecordLength,

@@ -30,8 +30,8 @@ pub const DRAFT_ROOM: usize = model::BLOCK_SIZE * model::MAX_BLOCKS;
 // The bytes that the longest output of one line of input needs: a line for each range that a listing has room for.
 pub const OUTPUT_ROOM: usize = line::LINE_ROOM * (model::LIST_ROOM / model::RANGE_SIZE);
 
-// Room for what a turn prints. A turn takes any that is no smaller, the start any that has room for two lines, and each function below a turn says so of
-// its N: a struct that kept the fact would be made of the room at each turn, and be taken apart again.
+// Room for what a turn prints. A turn takes any that is no smaller, and the start any that has room for two lines: one size, or a type that is only made
+// of room enough, would ask more of a caller. So each function that a turn calls says of its N how great it is.
 pub type Output = ArrayString<OUTPUT_ROOM>;
 
 // A card's record and a draft task.

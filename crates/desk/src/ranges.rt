@@ -6,7 +6,7 @@ ghost use Rattle.model.specs.Sheet.{list_draft};
 ghost use Rattle.model.specs.Program.{shows, on_call};
 ghost use Rattle.arrayvec.specs.ArrayString.{array_string_len};
 ghost use Rattle.line.specs.Print.{line_room};
-ghost use Rattle.desk.specs.Desk.{output_room, desk_of, range_of, range_line};
+ghost use Rattle.desk.specs.Desk.{output_room, desk_of};
 
 use crate::Desk;
 use crate::output::say;

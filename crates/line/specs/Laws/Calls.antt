@@ -6,6 +6,7 @@ use Rattle.line.specs.declared.call.Fields.{Fields}
 use Rattle.std.proofs.Common.{sym, ap, ◌∙◌, inl, inr, arith, SFits, of_z, eq-eqb, ne_eqb, le-leb}
 use Rattle.std.proofs.lemmas.Bool.{lt-leb}
 use Rattle.std.proofs.lemmas.List.{get_or_past}
+use Rattle.std.proofs.Math.Bool.{and-false}
 use Rattle.std.proofs.Math.Option.{Option as Read, none, some}
 use Rattle.std.specs.Int.{Width}
 use denote.Ref.{Bor}
@@ -58,10 +59,6 @@ pub cond_none : {A : Type 0} (b : Bool) → cond {A = Read A} b none none ≡ no
 cond_none true = refl
 cond_none false = refl
 
-and_right : (b : Bool) → (b && false) ≡ false
-and_right true = refl
-and_right false = refl
-
 not_one : (f : List ℕ) → one_byte f ≡ None → eqb (length f) 1 ≡ false
 not_one [] e = refl
 not_one (x ∷ []) e = cc
@@ -88,7 +85,7 @@ module _ (fs : List (List ℕ)) where
 
   pub kind_lost : one_byte (get_or fs 3 []) ≡ None → six fs ≡ none
   unfolding six call_of is kind_field
-  kind_lost e = simp (not_one (get_or fs 3 []) e, and_right, cond_none, with_none)
+  kind_lost e = simp (not_one (get_or fs 3 []) e, and-false, cond_none, with_none)
 
   pub bottom_lost : height_field (get_or fs 4 []) ≡ none → six fs ≡ none
   unfolding six

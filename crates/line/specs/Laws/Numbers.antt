@@ -2,6 +2,7 @@
 use Rattle.std.specs.Prelude.{ℕ, zero, suc, ◌+◌, ◌^◌, ◌<◌, ◌≡◌, refl, Bool, true, false, cond, ◌&&◌, List, [], ◌∷◌, leb, ltb, eqb, ℤ, pos, negsuc, Option, Some, None, Result, Ok, Err, FitsSigned, unsigned_abs}
 use Rattle.std.proofs.Common.{sym, ap, ◌∙◌, arith, w16, le-leb, leb-true, ltb-false}
 use Rattle.std.proofs.lemmas.Bool.{lt-leb}
+use Rattle.std.proofs.Math.Bool.{and-true}
 use Rattle.std.proofs.Math.Option.{Option as Read, none, some}
 use Rattle.std.specs.Int.{FitsUnsignedBits}
 use Rattle.std.specs.Int.Signed.{mag, le_z}
@@ -88,13 +89,9 @@ natural_read k most limit fits f E o = go (number f) refl
 
 -- ---- a bottom or a top
 
-and_true : (b : Bool) → (b && true) ≡ b
-and_true true = refl
-and_true false = refl
-
 within : (z : ℤ) → (le_z (negsuc max_height_field) z && le_z z (pos max_height_field)) ≡ leb (mag z) max_height_field
 within (pos n) = refl
-within (negsuc n) = and_true (leb n max_height_field)
+within (negsuc n) = and-true (leb n max_height_field)
 
 pub height_read : (f : List ℕ) (E : Type 0) (o : Option ℤ) → Narrowed (Signed16 {E = E}) (number_said f) o → read o ≡ height_field f
 unfolding number_said height_field
