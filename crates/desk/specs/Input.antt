@@ -1,11 +1,12 @@
 -- MODEL 17.1, 18.5, 18.6: the input's lines, and what its first three lead to. Assumes nothing.
-use Rattle.std.specs.Prelude.{ℕ, ◌≤◌, ◌<◌, ◌≡◌, true, Result, MatchResult, List, [], ◌∷◌, length}
+use Rattle.std.specs.Prelude.{ℕ, ◌≤◌, ◌<◌, ◌≡◌, ◌⊎◌, Bool, true, false, Result, MatchResult, List, [], ◌∷◌, length}
 use Rattle.std.proofs.Common.{Bor}
 use Rattle.std.proofs.Math.Option.{some, Option as ModelOption}
 use Rattle.model.specs.Columns.{Device, device_ok}
 use Rattle.model.specs.Record.{record_of}
 use Rattle.model.specs.Program.{with_device, on_lines, lines}
 use Rattle.desk.specs.declared.fault.Fault.{Fault}
+use Rattle.desk.specs.declared.fault.Fault.TheVariants.{Malformed}
 use Rattle.desk.specs.Fault.{shown_fault}
 
 -- the first line of some bytes, and the bytes after it
@@ -23,6 +24,11 @@ pub record Opened (o : ModelOption Device) (card : List ℕ) : Type 0 where
 -- MODEL 18.5 and 18.6: the line says no device, or new refuses it: the program prints this and ends, whatever lines follow
 abbrev pub Refuses : ModelOption Device → Fault → Type 0
 Refuses o f = (ls : List (List ℕ)) → with_device o ls ≡ shown_fault f
+
+-- a line of names by what a test says of it: it is there and is the names, and `rest` of the input stands behind it; or it is missing, or not the names
+unfoldable pub Names : (List ℕ → Bool → Type 0) → ℕ → List ℕ → Result (Bor (List ℕ)) Fault → Type 0
+Names says number input x = MatchResult x (λ r. (l : List ℕ) × Parts input l r.now × says l true)
+    (λ f. (f ≡ Malformed number) × ((length input ≡ 0) ⊎ ((l : List ℕ) × (rest : List ℕ) × Parts input l rest × says l false)))
 
 -- the output is what the lines of `rest` print, from the fourth on, on an empty card of device d
 abbrev pub GoesOn : Device → List ℕ → List ℕ → Type 0

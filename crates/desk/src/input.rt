@@ -1,12 +1,12 @@
 // The input: where its lines end, and its first three lines.
 ghost use Rattle.std.specs.Prelude.{◌≡◌, ◌≤◌, ◌++◌, length, MatchOption, MatchResult};
+ghost use Rattle.std.specs.Fn.{FnOnceReturnsAt};
 ghost use Rattle.model.specs.Limits.{max_sheet};
-ghost use Rattle.model.specs.Columns.{Device};
 ghost use Rattle.model.specs.Sheet.{device_line};
-ghost use Rattle.model.specs.Program.{first, second, third, lines, program};
+ghost use Rattle.model.specs.Program.{first, second, lines, program};
 ghost use Rattle.line.specs.Print.{names_line};
 ghost use Rattle.desk.specs.Fault.{shown_fault};
-ghost use Rattle.desk.specs.Input.{Parts, Opened, Refuses, GoesOn, Begun, Leads};
+ghost use Rattle.desk.specs.Input.{Parts, Opened, Refuses, Names, Begun, Leads};
 
 use crate::MAX_SHEET;
 use crate::fault::Fault;
@@ -44,38 +44,34 @@ fn new_card(line: &[u8], card: &mut [u8; RECORD_SIZE]) -> Result<(), Fault>
     Ok(())
 }
 
-// The third line. The answer is the input after it.
-#[tactic(auto, using(crate::specs::Laws::Input::third_none, crate::specs::Laws::Input::third_wrong, crate::specs::Laws::Input::third_right))]
-fn third(input: &[u8]) -> Result<&[u8], Fault>
-    ensures { MatchResult result (λ r. ((d : Device) → GoesOn d (third d (lines input.now)) r.now) × (length r.now ≤ length input.now)) (λ f. (d : Device) → third d (lines input.now) ≡ shown_fault f) }
+// A line of names, by its number and by what tells them. The answer is the input after it.
+#[tactic(auto, unfolding(crate::specs::Input::Names))]
+fn names<F: FnOnce(&[u8]) -> bool>(input: &[u8], number: u32, are_names: F) -> Result<&[u8], Fault>
+    requires { F.IsAlwaysCallable are_names }
+    ensures { Names (FnOnceReturnsAt F.FnOnce are_names) number input.now result }
 {
-    let (names, rest) = line(input, 3)?;
-    if !line::device::is_second_names(names) {
-        return Err(Fault::Malformed(3));
+    let (names, rest) = line(input, number)?;
+    if !are_names(names) {
+        return Err(Fault::Malformed(number));
     }
     Ok(rest)
 }
 
 // The second line, and the third. The card is that of the second line.
-#[tactic(auto, using(crate::specs::Laws::Input::second_none, crate::specs::Laws::Input::second_opened))]
+#[tactic(auto, using(crate::specs::Laws::Input::second_none))]
 fn second<'a>(input: &'a [u8], card: &mut [u8; RECORD_SIZE]) -> Result<&'a [u8], Fault>
     ensures { Leads input.now card.new (second (lines input.now)) result }
 {
     let (device, rest) = line(input, 2)?;
     new_card(device, card)?;
-    third(rest)
+    names(rest, 3, line::device::is_second_names)
 }
 
 // The first line, and the second and the third.
-#[tactic(auto, using(crate::specs::Laws::Input::leads_on, crate::specs::Laws::Input::first_none, crate::specs::Laws::Input::first_wrong, crate::specs::Laws::Input::first_right))]
 fn first<'a>(input: &'a [u8], card: &mut [u8; RECORD_SIZE]) -> Result<&'a [u8], Fault>
     ensures { Leads input.now card.new (first (lines input.now)) result }
 {
-    let (names, rest) = line(input, 1)?;
-    if !line::device::is_first_names(names) {
-        return Err(Fault::Malformed(1));
-    }
-    second(rest, card)
+    second(names(input, 1, line::device::is_first_names)?, card)
 }
 
 // MODEL 18.2: the first three lines of an input that is not too long.

@@ -19,7 +19,7 @@ pub struct OutputLine {
     pub last: u32,
 }
 
-// A number, and the byte after it. Not by `write!` of a Display: a line cannot fail, and no clause of std says that of a `write!`.
+// A number, and the byte after it. Not by `write!`: a line cannot fail, and no clause says when a `write!` succeeds.
 fn push_number<I: Integer>(text: &mut ArrayString<LINE_ROOM>, number: I, after: char)
     requires ascii { after < 128 }
     requires room { array_string_len text.old + I.MAX_STR_LEN + 1 ≤ line_room }

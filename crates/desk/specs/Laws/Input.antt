@@ -4,7 +4,7 @@ use Prim.Native.Char.{code}
 use Rattle.std.proofs.Math.Nat.{min_comm}
 use Rattle.std.proofs.lemmas.Result.{MatchResult-weaker}
 use Rattle.std.proofs.lemmas.List.{take_all, drop_min, length-take}
-use Rattle.std.proofs.Common.{Bor, ap, ap₂, ◌∙◌, arith, add-one, length-drop, eq-eqb, eqb-true, ltb-false}
+use Rattle.std.proofs.Common.{Bor, inl, inr, ap, ap₂, ◌∙◌, arith, add-one, length-drop, eq-eqb, eqb-true, ltb-false}
 use Rattle.std.specs.List.{position_or_len}
 use Rattle.std.proofs.lemmas.List.Sums.{prefix_len-le-length}
 use Rattle.std.proofs.Math.Option.{Option, none, some}
@@ -25,7 +25,7 @@ use Rattle.card.specs.Answers.{answer_by}
 use Rattle.desk.specs.declared.fault.Fault.{Fault}
 use Rattle.desk.specs.declared.fault.Fault.TheVariants.{Malformed, Device as NoDevice}
 use Rattle.desk.specs.Fault.{shown_fault}
-use Rattle.desk.specs.Input.{Parts, Opened, Refuses, GoesOn, Leads}
+use Rattle.desk.specs.Input.{Parts, Opened, Refuses, Names, GoesOn, Leads}
 use Rattle.desk.specs.Laws.Refusals.{refused_below}
 
 -- ---- the first line and the others
@@ -125,7 +125,7 @@ no_lines [] h = refl
 no_lines (x ∷ s) h = absurd (omega arith)
 
 module _ (s : List ℕ) (h : length s ≡ 0) where
-  pub third_none : (d : Device) → third d (lines s) ≡ shown_fault (Malformed 3)
+  third_none : (d : Device) → third d (lines s) ≡ shown_fault (Malformed 3)
   unfolding third
   third_none d = rw (no_lines s h)
 
@@ -133,31 +133,48 @@ module _ (s : List ℕ) (h : length s ≡ 0) where
   unfolding second
   second_none = rw (no_lines s h)
 
-  pub first_none : first (lines s) ≡ shown_fault (Malformed 1)
+  first_none : first (lines s) ≡ shown_fault (Malformed 1)
   unfolding first
   first_none = rw (no_lines s h)
 
 module _ (s l rest : List ℕ) (p : Parts s l rest) where
-  pub third_wrong : {b : Bool} → Same l second_names b → b ≡ false → (d : Device) → third d (lines s) ≡ shown_fault (Malformed 3)
+  third_wrong : Same l second_names false → (d : Device) → third d (lines s) ≡ shown_fault (Malformed 3)
   unfolding third
-  third_wrong h e d = rw (p.lines_are, same_not l second_names (h.no e))
+  third_wrong h d = rw (p.lines_are, same_not l second_names (h.no refl))
 
-  pub third_right : l ≡ second_names → (d : Device) → GoesOn d (third d (lines s)) rest
+  third_right : Same l second_names true → (d : Device) → GoesOn d (third d (lines s)) rest
   unfolding third
-  third_right h d = rw (p.lines_are, h, same_of second_names)
+  third_right h d = rw (p.lines_are, h.yes refl, same_of second_names)
 
-  -- what the lines after the first lead to
-  pub leads_on : (card : List ℕ) {o o' : List ℕ} → o ≡ o' → (x : Result (Bor (List ℕ)) Fault) → Leads rest card o' x → Leads s card o x
-  leads_on card e x h = rw e (MatchResult-weaker x h (λ r y. (y.0, omega (arith, p.shorter))) (λ f y. y))
-
-  pub first_wrong : {b : Bool} → Same l first_names b → b ≡ false → first (lines s) ≡ shown_fault (Malformed 1)
+  first_wrong : Same l first_names false → first (lines s) ≡ shown_fault (Malformed 1)
   unfolding first
-  first_wrong h e = rw (p.lines_are, same_not l first_names (h.no e))
+  first_wrong h = rw (p.lines_are, same_not l first_names (h.no refl))
 
-  pub first_right : l ≡ first_names → first (lines s) ≡ second (lines rest)
+  first_right : Same l first_names true → first (lines s) ≡ second (lines rest)
   unfolding first
-  first_right h = rw (p.lines_are, h, same_of first_names)
+  first_right h = rw (p.lines_are, h.yes refl, same_of first_names)
 
+-- a line of names, by a test that tells them
+module _ {says : List ℕ → Bool → Type 0} (s : List ℕ) where
+  third_named : (x : Result (Bor (List ℕ)) Fault) → Names says 3 s x → ((l : List ℕ) (b : Bool) → says l b → Same l second_names b)
+      → MatchResult x (λ r. ((d : Device) → GoesOn d (third d (lines s)) r.now) × (length r.now ≤ length s)) (λ f. (d : Device) → third d (lines s) ≡ shown_fault f)
+  unfolding Names
+  third_named (Ok r) (l, p, h) same = (third_right s l r.now p (same l true h), omega (arith, p.shorter))
+  third_named (Err f) (e, inl h) same = rw e (third_none s h)
+  third_named (Err f) (e, inr (l, rest, p, h)) same = rw e (third_wrong s l rest p (same l false h))
+
+  pub first_named : (x : Result (Bor (List ℕ)) Fault) → Names says 1 s x → ((l : List ℕ) (b : Bool) → says l b → Same l first_names b)
+      → MatchResult x (λ r. (first (lines s) ≡ second (lines r.now)) × (length r.now ≤ length s)) (λ f. first (lines s) ≡ shown_fault f)
+  unfolding Names
+  first_named (Ok r) (l, p, h) same = (first_right s l r.now p (same l true h), omega (arith, p.shorter))
+  first_named (Err f) (e, inl h) same = rw e (first_none s h)
+  first_named (Err f) (e, inr (l, rest, p, h)) same = rw e (first_wrong s l rest p (same l false h))
+
+-- what the lines after some lead to
+pub leads_on : (s rest card : List ℕ) {o o' : List ℕ} → (o ≡ o') × (length rest ≤ length s) → (x : Result (Bor (List ℕ)) Fault) → Leads rest card o' x → Leads s card o x
+leads_on s rest card e x h = rw e.0 (MatchResult-weaker x h (λ r y. (y.0, omega (arith, e.1, y.1))) (λ f y. y))
+
+module _ (s l rest : List ℕ) (p : Parts s l rest) where
   second_is : second (lines s) ≡ with_device (device_line l) (lines rest)
   unfolding second
   second_is = rw p.lines_are
@@ -167,9 +184,9 @@ module _ (s l rest : List ℕ) (p : Parts s l rest) where
   second_refused f x = second_is ∙ x (lines rest)
 
   -- the third line on the card
-  pub second_opened : (card : List ℕ) → Opened (device_line l) card → (z : Result (Bor (List ℕ)) Fault)
-      → MatchResult z (λ r. ((d : Device) → GoesOn d (third d (lines rest)) r.now) × (length r.now ≤ length rest)) (λ f. (d : Device) → third d (lines rest) ≡ shown_fault f)
-      → Leads s card (second (lines s)) z
-  second_opened card o z t =
+  pub second_opened : (card : List ℕ) → Opened (device_line l) card → {says : List ℕ → Bool → Type 0} (z : Result (Bor (List ℕ)) Fault) → Names says 3 rest z
+      → ((l : List ℕ) (b : Bool) → says l b → Same l second_names b) → Leads s card (second (lines s)) z
+  second_opened card o z n same =
+      let t = third_named rest z n same in
       let e : second (lines s) ≡ third o.device (lines rest) = second_is ∙ rw (o.device_is, o.ok) in
       MatchResult-weaker z t (λ r y. (record { device = o.device; ok = o.ok; card_is = o.card_is; output_is = e ∙ y.0 o.device }, omega (arith, p.shorter))) (λ f y. e ∙ y o.device)

@@ -1,5 +1,5 @@
 -- MODEL 17.6 to 17.9: a sheet line by its six fields, each as it is read. Assumes nothing.
-use Rattle.std.specs.Prelude.{ℕ, suc, ◌+◌, ◌^◌, ◌≤◌, ◌<◌, ◌≡◌, ◌⊎◌, refl, Bool, not, true, false, cond, ◌&&◌, List, [], ◌∷◌, length, get_or, eqb, ℤ, pos, negsuc, Option, Some, None, Result, MatchOption, is_some}
+use Rattle.std.specs.Prelude.{ℕ, suc, ◌+◌, ◌^◌, ◌≤◌, ◌<◌, ◌≡◌, ◌⊎◌, refl, Bool, not, true, false, cond, List, [], ◌∷◌, length, get_or, eqb, ℤ, pos, negsuc, Option, Some, None, Result, MatchOption, is_some}
 use Rattle.std.specs.Bool.{then_some}
 use Rattle.runs.specs.Laws.Tests.{lt_or_ge}
 use Rattle.line.specs.declared.call.Fields.{Fields}
