@@ -38,6 +38,7 @@ fn meet(forest: &mut Forest<'_>, x: Node, y: Node) -> bool
 // follow. The answer is how often two sets became one.
 pub fn sweep(forest: &mut Forest<'_>, left: Column, right: Column, base: usize) -> u32
     requires { base + left.count + right.count ≤ length forest.old.parents.now }
+    ensures same_length { length forest.new.parents.now ≡ length forest.old.parents.now }
     ensures same_reference { forest.new.parents.ghost_name ≡ forest.old.parents.ghost_name }
     ensures joins { Joins (edges (sides left.entry.part.now right.entry.part.now left.entry.count right.entry.count base)) forest.old.parents.now forest.new.parents.now result }
     ensures few { result ≤ left.entry.count + right.entry.count }

@@ -44,6 +44,7 @@ impl<'a> Forest<'a> {
     pub fn set_apart(&mut self, n: usize)
         requires { n ≤ length self.old.parents.now }
         ensures alone { Alone n self.new.parents.now }
+        ensures same_length { length self.new.parents.now ≡ length self.old.parents.now }
         ensures same_reference { self.new.parents.ghost_name ≡ self.old.parents.ghost_name }
     {
         // over an index: it is what is written
@@ -65,6 +66,7 @@ impl<'a> Forest<'a> {
     #[tactic(auto, using(crate::specs::Laws::Unions::unite_same, crate::specs::Laws::Unions::unite_two))]
     pub fn unite(&mut self, i: usize, j: usize) -> bool
         requires { (i < length self.old.parents.now) × (j < length self.old.parents.now) }
+        ensures same_length { length self.new.parents.now ≡ length self.old.parents.now }
         ensures same_reference { self.new.parents.ghost_name ≡ self.old.parents.ghost_name }
         ensures united { (self.new.parents.now ≡ union self.old.parents.now i j)
             × (result ≡ not (eqb (root_of self.old.parents.now i) (root_of self.old.parents.now j))) }

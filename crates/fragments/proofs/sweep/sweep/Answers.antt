@@ -28,3 +28,9 @@ returns-else-j-right-clause-joins c = sweeping_end _ _ _ _ _ _ c.loop-i.invarian
 
 pub returns-after-loop-i-clause-joins : goal.returns-after-loop-i-clause-joins
 returns-after-loop-i-clause-joins c = sweeping_end _ _ _ _ _ _ c.loop-i.invariant.1 (inl c.loop-i-test.false)
+
+pub returns-else-j-right-clause-same_length : goal.returns-else-j-right-clause-same_length
+returns-else-j-right-clause-same_length c = sweeping_length _ _ _ _ _ _ c.loop-i.invariant.1
+
+pub returns-after-loop-i-clause-same_length : goal.returns-after-loop-i-clause-same_length
+returns-after-loop-i-clause-same_length c = sweeping_length _ _ _ _ _ _ c.loop-i.invariant.1
