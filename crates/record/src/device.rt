@@ -17,7 +17,7 @@ pub struct Device<'a> {
     ghost whole: { device_ok (record { rows = rows; kinds = kinds.now }) ≡ true },
 }
 
-// Whether a device has as many rows.
+// Whether a device has as many rows. With the bound as a parameter, here and at the columns, nothing but `contains` would be left.
 fn rows_ok(rows: u32) -> bool
     ensures { result ≡ (leb 1 rows && leb rows max_rows) }
 {

@@ -168,7 +168,7 @@ fn lift(v: u32) -> u32
     (v + model::REACH) % model::WORDS
 }
 
-// MODEL 4.2: where block i of a task is. The kind is not looked at.
+// MODEL 4.2: where block i of a task is. The kind is not looked at. That the block is there is the bound of an index, here and where a block is read.
 #[tactic(auto, unfolding(model::specs::Tasks::block))]
 pub fn extent_at(task: &[u8], i: usize) -> Extent
     requires { block_size * i + block_size ≤ length task.now }
