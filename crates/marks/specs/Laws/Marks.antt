@@ -1,14 +1,14 @@
 -- Why marking a block says whether it fits. Assumes nothing.
-use Rattle.std.specs.Prelude.{ℕ, ◌+◌, ◌-◌, ◌*◌, ◌/◌, ◌%◌, ◌≤◌, ◌<◌, ◌≡◌, ◌⊎◌, ◌↔◌, Bool, true, false, List, [], get_or, take, drop, length, eqb}
-use Rattle.std.proofs.Common.{sym, ap, ◌∙◌, inl, inr, arith, le-div_iff_mul-le, mul-le-mul_left, add-one, below_more, length-take, length-drop, eqb-true}
-use Rattle.std.proofs.lemmas.Bool.{false≢true, eqb-false}
-use Rattle.std.proofs.Math.Nat.{div-add-mod, lt_of_mul-lt-mul_left, mul-div_cancel_left, mul-div-le, mul-le-mul_right, add-sub_cancel_left}
+use Rattle.std.specs.Prelude.{ℕ, ◌+◌, ◌-◌, ◌*◌, ◌/◌, ◌%◌, ◌≤◌, ◌<◌, ◌≡◌, ◌⊎◌, ◌↔◌, Bool, true, false, List, [], get_or, take, drop, length}
+use Rattle.std.proofs.Common.{sym, ap, ◌∙◌, inl, inr, arith, le-div_iff_mul-le, mul-le-mul_left, add-one, below_more, length-take, length-drop}
+use Rattle.std.proofs.lemmas.Bool.{false≢true}
+use Rattle.std.proofs.Math.Nat.{div-add-mod, lt_of_mul-lt-mul_left, mul-div_cancel_left, mul-div-le, mul-le-mul_right}
 use Rattle.runs.specs.Laws.Tests.{lt_or_ge}
-use Rattle.model.specs.Limits.{bytes, reach, rows_at, columns_at, kinds_at, max_columns, max_kind, max_rows, record_size}
+use Rattle.model.specs.Limits.{reach, max_columns, max_kind, max_rows}
 use Rattle.model.specs.Columns.{Device, columns, kind, cells, top, top_in, cells_in, height, device_ok}
-use Rattle.model.specs.Tasks.{word, Block, blocks, block, well_formed}
+use Rattle.model.specs.Tasks.{Block, blocks, block, well_formed}
 use Rattle.model.specs.Book.{Book, placed, held, block_fits, fits}
-use Rattle.model.specs.Record.{part, device_of}
+use Rattle.model.specs.Record.{part}
 use Rattle.model.proofs.Laws.Bounded.{all_to, all_of, is_false, same_test, true_or_false, clash}
 use Rattle.model.proofs.Laws.Columns.{height_pos, height_two, top_le}
 use Rattle.model.specs.Blocks.{Solid}
@@ -18,7 +18,7 @@ use Rattle.model.proofs.Laws.Limits.{Limits, limits_to}
 use Rattle.model.proofs.Laws.Kept.{within_new}
 use Rattle.model.proofs.Laws.ReadBack.{get_d_in}
 use Rattle.model.specs.Parts.{splice}
-use Rattle.model.proofs.Laws.Parts.{list_parts, part_splice, part_splice_below, part_splice_above}
+use Rattle.model.proofs.Laws.Parts.{part_splice, part_splice_below, part_splice_above}
 use Rattle.cells.specs.Bits.{cell_bit, RunIn, Marked}
 use Rattle.cells.specs.Laws.Book.{Shown, held_with, BlockAt, shown_none, shown_mark, shown_free, earlier_apart}
 use Rattle.marks.specs.Marks.{column_words, all_words, words_of, OnCells, FitsNowhere, BlockDue, BlockMarked, TaskMarked}
@@ -30,7 +30,7 @@ quotient h z e = omega (arith, div-add-mod z h)
 module _ (d : Device) (H : List ℕ) (k : Block) (p y : ℕ) where
   -- a block that fits nowhere
   pub refused : FitsNowhere d k p y → BlockMarked d H k p y H false
-  refused f = record { answers = λ b t j x. sym (f b); marks = λ b t j x e. absurd (false≢true e); }
+  refused f = record { answers = λ b t j x. sym (f b); marks = λ b t j x e. absurd (false≢true e) }
 
   module _ (s : Solid k) where
     abbrev h : ℕ
