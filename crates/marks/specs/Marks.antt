@@ -25,7 +25,7 @@ pub record EntryPosition (p y : ℕ) : Type 0 where
   pub column : p < bytes
   pub bottom : y < words
 
--- MODEL 6.2 to 6.4: the block k, moved to column p and bottom y, is on the device d, which has no more cells there, and its cells are those from a up to e
+-- MODEL 6.2 to 6.4: the block k, moved to column p and bottom y, stands on the grid of a column of its kind, and within it: on the cells from a up to e
 pub record OnCells (d : Device) (k : Block) (p y a e : ℕ) : Type 0 where
   pub column : p + k.column < columns d
   pub kind : kind d (p + k.column) ≡ k.kind
@@ -35,7 +35,7 @@ pub record OnCells (d : Device) (k : Block) (p y a e : ℕ) : Type 0 where
   pub last : e ≡ (y + k.high - reach) / height k.kind
   pub below : e ≤ cells d (p + k.column)
 
--- there it fits on no book
+-- moved there, the block k fits on no book of d, whatever is free
 abbrev pub FitsNowhere : Device → Block → ℕ → ℕ → Type 0
 FitsNowhere d k p y = (b : Book) → block_fits d b k p y ≡ false
 
