@@ -1,8 +1,8 @@
 //! The documents: written by hand, but for the parts between two marks, which are made from the stored runs.
 
 use crate::growth::SERIES;
-use crate::summary::Summary;
-use crate::table;
+use crate::summary::{Stored, Summary};
+use crate::{before, table};
 
 /// The line before a part.
 fn mark(name: &str) -> String {
@@ -29,15 +29,17 @@ pub fn filled_readme(text: &str, summary: &Summary) -> Result<String, String> {
 }
 
 /// The document with all its parts made anew.
-pub fn filled(text: &str, summary: &Summary) -> Result<String, String> {
+pub fn filled(text: &str, stored: &Stored) -> Result<String, String> {
+    let summary = &stored.now;
     let mut parts = vec![
         ("top", table::top(summary)),
         ("targets", table::targets(summary)),
         ("calls", table::calls(summary)),
         ("searches", table::searches(summary)),
         ("runs", table::runs(summary)),
+        ("before", before::part(stored.before.as_ref(), summary)),
     ];
-    parts.extend(SERIES.map(|series| (series, table::growth(summary, series))));
+    parts.extend(SERIES.map(|series| (series.name, table::growth(summary, &series))));
     parts
         .iter()
         .try_fold(text.to_string(), |text, (name, part)| {

@@ -1,25 +1,62 @@
-//! How the time of a call grows with the running tasks, with the blocks of a task and with the rows.
+//! How the time of a call grows: with the running tasks, with the blocks of a task, with the rows, and with how crowded
+//! the columns are.
 
 use calls::SUBJECTS;
 
-use crate::loads::{busy, empty, mixed_probe, wide_probe, Load, Probe};
+use crate::loads::{busy, comb_probe, combs, empty, mixed_probe, wide_probe, Load, Probe};
 use crate::measure::Effort;
-use crate::names;
-use crate::rows::{change_rows, search_rows, simple_rows, Row};
+use crate::names::{self, CALL_RATIOS, SEARCH_RATIOS};
+use crate::rows::{list_alone, place_row, reading_rows, search_rows, Row};
 use crate::run::{figures, Figure};
 use crate::summary::{Line, Summary};
 
+/// Something that grows.
+#[derive(Debug, PartialEq, Eq)]
+pub struct Series {
+    /// Its name: that of the part of a run, and of the table.
+    pub name: &'static str,
+    /// What there is so much of.
+    pub axis: &'static str,
+    /// What stays the same.
+    pub beside: &'static str,
+    /// The task whose calls are drawn, if there are several.
+    pub drawn: Option<&'static str>,
+}
+
 /// What grows: each is a part of a run.
-pub const SERIES: [&str; 3] = ["tasks", "blocks", "rows"];
+pub const SERIES: [Series; 4] = [
+    Series {
+        name: "tasks",
+        axis: "running tasks of 5 blocks",
+        beside: "128 rows, a task of 5 blocks",
+        drawn: None,
+    },
+    Series {
+        name: "blocks",
+        axis: "blocks of the task",
+        beside: "128 rows, nothing runs",
+        drawn: None,
+    },
+    Series {
+        name: "rows",
+        axis: "rows",
+        beside: "nothing runs, a task of 5 blocks",
+        drawn: None,
+    },
+    Series {
+        name: "teeth",
+        axis: "teeth of each of 63 combs",
+        beside: "128 rows, a comb of 16 blocks",
+        drawn: Some("comb of 16"),
+    },
+];
 
 /// One point of a line.
 #[derive(Clone, Debug, PartialEq)]
 pub struct Point {
-    /// What grows.
-    pub series: String,
     /// How many there are.
     pub amount: usize,
-    /// The call.
+    /// The call, with its task if there are several.
     pub call: String,
     /// The implementation.
     pub implementation: String,
@@ -27,65 +64,82 @@ pub struct Point {
     pub ns: f64,
 }
 
-/// Measures all calls for one amount.
-fn measure_amount(
-    series: &str,
-    amount: usize,
-    load: &Load,
-    probe: &Probe,
-    effort: Effort,
-) -> Vec<Figure> {
-    let mut rows = simple_rows(load, effort);
-    rows.extend(change_rows(load, probe, effort));
-    rows.extend(search_rows(load, probe, effort));
-    let amount = amount.to_string();
-    rows.into_iter()
-        .flat_map(|row| figures(series, &amount, &without_task(row), &[]))
-        .collect()
+/// How many rounds a row has, of so many on a load: fewer, since there are many points.
+pub fn rounds(on_load: usize) -> usize {
+    2 * on_load / 3
 }
 
-/// A row that names the call alone: the amount says the task.
+/// A row that names the call alone.
 fn without_task(row: Row) -> Row {
     let call = row.call.split(',').next().unwrap_or_default().to_string();
     Row { call, ..row }
 }
 
-/// Measures all three.
+/// Measures the calls of some tasks for one amount. A call is named with its task if there are several.
+fn measure_amount(
+    series: &Series,
+    amount: usize,
+    load: &Load,
+    probes: &[Probe],
+    effort: Effort,
+) -> Vec<Figure> {
+    let mut calls = reading_rows(load, effort);
+    let mut searches = Vec::new();
+    for probe in probes {
+        calls.push(place_row(load, probe, effort));
+        calls.extend(search_rows(load, probe, effort));
+        searches.push(list_alone(load, probe, effort));
+    }
+    let named = |row: Row| match probes.len() {
+        1 => without_task(row),
+        _ => row,
+    };
+    let amount = amount.to_string();
+    let part = names::searches_of(series.name);
+    let calls = calls.into_iter().map(named);
+    let calls = calls.flat_map(|row| figures(series.name, &amount, &row, &CALL_RATIOS));
+    let searches = searches.into_iter().map(named);
+    let searches = searches.flat_map(|row| figures(&part, &amount, &row, &SEARCH_RATIOS));
+    calls.chain(searches).collect()
+}
+
+/// Measures all of them.
 pub fn measure(effort: Effort) -> Vec<Figure> {
-    let [by_tasks, by_blocks, by_rows] = SERIES;
+    let rounds = rounds(effort.rounds);
+    let effort = Effort { rounds, ..effort };
     let subject = SUBJECTS[0];
-    let probe = mixed_probe();
+    let [tasks, blocks, rows, teeth] = &SERIES;
+    let five = [mixed_probe()];
+    let both = [mixed_probe(), comb_probe()];
     let mut all = Vec::new();
-    for tasks in (0..=56).step_by(8) {
-        let load = busy(subject, tasks);
-        all.extend(measure_amount(by_tasks, tasks, &load, &probe, effort));
+    for amount in (0..=56).step_by(8) {
+        let load = busy(subject, amount);
+        all.extend(measure_amount(tasks, amount, &load, &five, effort));
     }
     let load = empty(subject, 128);
-    for blocks in [1, 2, 4, 8, 12, 16, 20, 24, 28, 32] {
-        let probe = wide_probe(blocks);
-        all.extend(measure_amount(by_blocks, blocks, &load, &probe, effort));
+    for amount in [1, 2, 4, 8, 12, 16, 20, 24, 28, 32] {
+        let wide = [wide_probe(amount)];
+        all.extend(measure_amount(blocks, amount, &load, &wide, effort));
     }
-    for rows in [16, 24, 32, 48, 64, 80, 96, 112, 128] {
-        let load = empty(subject, rows);
-        all.extend(measure_amount(
-            by_rows,
-            rows as usize,
-            &load,
-            &probe,
-            effort,
-        ));
+    for amount in [16, 24, 32, 48, 64, 80, 96, 112, 128] {
+        let load = empty(subject, amount as u32);
+        all.extend(measure_amount(rows, amount, &load, &five, effort));
+    }
+    for amount in [1, 2, 4, 8, 12, 16, 20, 24, 28, 32] {
+        let load = combs(subject, amount as i16);
+        all.extend(measure_amount(teeth, amount, &load, &both, effort));
     }
     all
 }
 
-/// The points of one series: the medians over the runs.
-pub fn points(summary: &Summary, series: &str) -> Vec<Point> {
-    let lines = summary.lines.iter().filter(|line| line.key.part == series);
+/// The points of a series: the medians over the runs.
+pub fn points(summary: &Summary, series: &Series) -> Vec<Point> {
+    let is_part = |line: &&Line| line.key.part == series.name;
+    let lines = summary.lines.iter().filter(is_part);
     let point = |line: &Line| {
-        let (implementation, _) = line.key.name.split_once(' ')?;
+        let implementation = names::timed(&line.key.name)?;
         (implementation != names::MEMCMP).then_some(())?;
         Some(Point {
-            series: series.into(),
             amount: line.key.load.parse().ok()?,
             call: line.key.call.clone(),
             implementation: implementation.into(),

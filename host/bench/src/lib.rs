@@ -1,13 +1,15 @@
-//! Measures the calls on an empty card, a busy card, two cards full of combs and two of which every
-//! other cell is held, and makes the tables and the plot of the document from stored runs.
+//! Measures the calls on an empty card, two busy cards, two cards full of combs, one full of rakes and two of
+//! which every other cell is held, and makes the tables and the plot of the document from stored runs.
 //!
-//! [`measure`] has the rounds, [`rows`] and [`growth`] what is measured in them, [`run`] a stored
-//! run, [`summary`] all of them side by side, [`targets`] what they are judged by, and [`table`],
-//! [`plot`] and [`document`] what is made of them.
+//! [`measure`] has the rounds, [`loads`] the cards, with records as [`bytes`](mod@bytes), [`rows`] and [`growth`]
+//! what is measured on them, [`run`] a stored run, [`summary`] all of them side by side, [`targets`] what they are
+//! judged by, and [`table`], [`before`], [`plot`] and [`document`] what is made of them.
 
 #![deny(missing_docs)]
 #![deny(unsafe_code)]
 
+pub mod before;
+pub mod bytes;
 #[allow(unsafe_code)]
 pub mod clock;
 pub mod document;

@@ -2,10 +2,11 @@
 
 use calls::Calls;
 use oracle::arbitrary::fitting_task;
-use oracle::layout::RECORD_SIZE;
 use oracle::rng::Rng;
 use oracle::task::{bytes_of, Block};
 use oracle::{Device, Kind, Position};
+
+use crate::bytes::Bytes;
 
 /// The number that measured placements use: odd, and amid the even ones of the loads, so that entries are moved.
 pub const PROBE_NUMBER: u32 = 30_001;
@@ -19,7 +20,7 @@ pub struct Load {
     /// Its kinds.
     pub kinds: Vec<u8>,
     /// Its record.
-    pub record: Vec<u8>,
+    pub record: Bytes,
 }
 
 /// A task to ask for.
@@ -92,7 +93,7 @@ pub fn wide_probe(blocks: usize) -> Probe {
 
 /// A card of some kinds without running tasks.
 fn empty_of(subject: &dyn Calls, rows: u32, kinds: Vec<u8>) -> Load {
-    let mut record = vec![0; RECORD_SIZE];
+    let mut record = Bytes::zeros();
     assert_eq!(subject.new(&mut record, rows, &kinds), 0);
     Load {
         name: format!("empty, {rows} rows"),
@@ -137,15 +138,33 @@ pub fn busy(subject: &dyn Calls, tasks: usize) -> Load {
     load
 }
 
-/// A card with 63 combs of so many blocks in 32 columns: with the measured one, as many tasks as can run.
+/// How many tasks run on a load of combs or rakes: with the measured one, as many as can.
+const MANY: usize = 63;
+
+/// A card with 63 combs of so many blocks in 32 columns.
 pub fn combs(subject: &dyn Calls, teeth: i16) -> Load {
     let mut load = empty(subject, 128);
     load.name = format!("63 combs of {teeth} blocks");
-    let logic = (0..64).filter(|&column| load.kinds[column as usize] == 0);
+    let logic = (0..64).filter(|&column| load.kinds[column as usize] == Kind::C.byte());
     let places = logic.flat_map(|column| [(column, 0), (column, 128)]);
-    for (index, (column, bottom)) in places.take(63).enumerate() {
+    for (index, (column, bottom)) in places.take(MANY).enumerate() {
         let number = 1000 * (index as u32 + 1);
         let placed = subject.place(&mut load.record, &comb(teeth), number, column, bottom);
+        assert_eq!(placed, 0);
+    }
+    load
+}
+
+/// A card with 63 rakes: each has a cell in each of 32 columns, and the next one stands above it, with one free cell between.
+pub fn rakes(subject: &dyn Calls) -> Load {
+    let mut load = empty(subject, 128);
+    load.name = "63 rakes of 32 blocks".into();
+    let columns = (0..64).filter(|&column| load.kinds[usize::from(column)] == Kind::C.byte());
+    let blocks: Vec<_> = columns.take(32).map(|c| (c, Kind::C, 0, 2)).collect();
+    let rake = task(&blocks);
+    for index in 0..MANY as u32 {
+        let bottom = 4 * index as i32;
+        let placed = subject.place(&mut load.record, &rake, 1000 * (index + 1), 0, bottom);
         assert_eq!(placed, 0);
     }
     load

@@ -1,15 +1,18 @@
 //! The benchmark.
 //!
-//!     bench run [--quick] FOLDER    measures, and stores the run in FOLDER/performance under the next number
-//!     bench document FOLDER         makes the tables of FOLDER/PERFORMANCE.md, the plot and the README's lines on speed from all stored runs
+//!     bench run [--quick] [--before] FOLDER
+//!         measures, and stores the run in FOLDER/performance under the next number
+//!     bench document FOLDER
+//!         makes the tables of FOLDER/PERFORMANCE.md, the plot and the README's lines on speed from all stored runs
 //!
-//! A run takes a little more than a minute, and is made with `--release`. `--quick` makes fewer rounds, for a try.
+//! A run takes about a minute and a half, and is made with `--release`. `--quick` makes fewer rounds, for a try. With
+//! `--before` it is a run of the library before a change, and is stored in FOLDER/performance/before.
 
 #![deny(missing_docs)]
 #![forbid(unsafe_code)]
 
 use std::error::Error;
-use std::path::Path;
+use std::path::{Path, PathBuf};
 use std::process::ExitCode;
 use std::time::{Duration, Instant};
 use std::{env, fs};
@@ -19,7 +22,7 @@ use bench::loads::{self, Load};
 use bench::measure::Effort;
 use bench::names::{CALLS, CALL_RATIOS, SEARCHES, SEARCH_RATIOS};
 use bench::run::{figures, About, Figure, Run};
-use bench::summary::Summary;
+use bench::summary::{Stored, BEFORE};
 use bench::{document, growth, machine, plot, rows, run};
 use calls::{Calls, SUBJECTS};
 
@@ -41,14 +44,16 @@ fn made<const N: usize>(build: impl Fn(&'static dyn Calls) -> [Load; N]) -> [Loa
     loads
 }
 
-/// The four loads on which every call is measured.
-fn loads() -> [Load; 4] {
+/// The loads on which every call is measured.
+fn loads() -> [Load; 6] {
     made(|subject| {
         [
             loads::empty(subject, 128),
             loads::busy(subject, 20),
+            loads::busy(subject, 60),
             loads::combs(subject, 8),
             loads::combs(subject, 32),
+            loads::rakes(subject),
         ]
     })
 }
@@ -65,7 +70,8 @@ fn measure_calls(effort: Effort) -> Vec<Figure> {
     for load in &loads() {
         let mut calls = rows::simple_rows(load, effort);
         for probe in &probes {
-            calls.extend(rows::change_rows(load, probe, effort));
+            calls.push(rows::place_row(load, probe, effort));
+            calls.push(rows::release_row(load, probe, effort));
             calls.extend(rows::search_rows(load, probe, effort));
         }
         for row in calls {
@@ -87,7 +93,8 @@ fn measure_searches(effort: Effort) -> Vec<Figure> {
     for load in &loads() {
         let mut rows = vec![rows::fragmentation_alone(load, effort)];
         for probe in &probes {
-            rows.extend(rows::search_alone(load, probe, effort));
+            rows.push(rows::list_alone(load, probe, effort));
+            rows.push(rows::choose_alone(load, probe, effort));
         }
         for row in rows {
             all.extend(figures(SEARCHES, &load.name, &row, &SEARCH_RATIOS));
@@ -107,6 +114,10 @@ fn make_run(effort: Effort) -> Result<Run, String> {
         ("kit".into(), machine::kit()?),
         ("processor".into(), machine::processor()?),
         ("rounds".into(), effort.rounds.to_string()),
+        (
+            "rounds for growth".into(),
+            growth::rounds(effort.rounds).to_string(),
+        ),
     ]);
     let (start, start_on_processor) = (Instant::now(), processor_time());
     let mut figures = measure_calls(effort);
@@ -121,13 +132,48 @@ fn make_run(effort: Effort) -> Result<Run, String> {
     Ok(Run { about, figures })
 }
 
+/// What a run is asked to be.
+#[derive(Clone, Copy, Default)]
+struct Request {
+    is_quick: bool,
+    is_before: bool,
+}
+
+impl Request {
+    /// What some words ask for; none where one is not known.
+    fn of(words: &[&str]) -> Option<Request> {
+        let mut request = Request::default();
+        for word in words {
+            match *word {
+                "--quick" => request.is_quick = true,
+                "--before" => request.is_before = true,
+                _ => return None,
+            }
+        }
+        Some(request)
+    }
+
+    /// Where in a folder the run is stored.
+    fn place(&self, folder: &Path) -> PathBuf {
+        let runs = folder.join("performance");
+        match self.is_before {
+            true => runs.join(BEFORE),
+            false => runs,
+        }
+    }
+}
+
 /// Makes a run and stores it.
-fn store_run(folder: &Path, rounds: usize) -> Result<(), Box<dyn Error>> {
+fn store_run(folder: &Path, request: Request) -> Result<(), Box<dyn Error>> {
     if cfg!(debug_assertions) {
         return Err("a run is made with --release".into());
     }
+    let rounds = match request.is_quick {
+        true => QUICK_ROUNDS,
+        false => ROUNDS,
+    };
     let effort = Effort { rounds, turn: TURN };
-    let path = run::store(&folder.join("performance"), &make_run(effort)?)?;
+    let path = run::store(&request.place(folder), &make_run(effort)?)?;
     println!("{}", path.display());
     Ok(())
 }
@@ -135,31 +181,75 @@ fn store_run(folder: &Path, rounds: usize) -> Result<(), Box<dyn Error>> {
 /// Makes the document and the plot anew.
 fn write_document(folder: &Path) -> Result<(), Box<dyn Error>> {
     let runs = folder.join("performance");
-    let summary = Summary::of(run::stored(&runs)?)?;
+    let stored = Stored::read(&runs)?;
     let path = folder.join("PERFORMANCE.md");
-    let text = document::filled(&fs::read_to_string(&path)?, &summary)?;
+    let text = document::filled(&fs::read_to_string(&path)?, &stored)?;
     fs::write(path, text)?;
     let readme = folder.join("../README.md");
-    let text = document::filled_readme(&fs::read_to_string(&readme)?, &summary)?;
+    let text = document::filled_readme(&fs::read_to_string(&readme)?, &stored.now)?;
     fs::write(readme, text)?;
-    fs::write(runs.join("growth.svg"), plot::svg(&summary))?;
+    fs::write(runs.join("growth.svg"), plot::svg(&stored.now))?;
     Ok(())
+}
+
+/// Does what some words ask for.
+fn done(words: &[&str]) -> Result<(), Box<dyn Error>> {
+    let usage = "usage: bench run [--quick] [--before] FOLDER | bench document FOLDER";
+    match *words {
+        ["run", ref options @ .., folder] if !folder.starts_with("--") => {
+            let request = Request::of(options).ok_or(usage)?;
+            store_run(folder.as_ref(), request)
+        }
+        ["document", folder] => write_document(folder.as_ref()),
+        _ => Err(usage.into()),
+    }
 }
 
 fn main() -> ExitCode {
     let words: Vec<String> = env::args().skip(1).collect();
     let words: Vec<&str> = words.iter().map(String::as_str).collect();
-    let done = match words[..] {
-        ["run", folder] => store_run(folder.as_ref(), ROUNDS),
-        ["run", "--quick", folder] => store_run(folder.as_ref(), QUICK_ROUNDS),
-        ["document", folder] => write_document(folder.as_ref()),
-        _ => Err("usage: bench run [--quick] FOLDER | bench document FOLDER".into()),
-    };
-    match done {
+    match done(&words) {
         Ok(()) => ExitCode::SUCCESS,
         Err(fault) => {
             eprintln!("bench: {fault}");
             ExitCode::FAILURE
+        }
+    }
+}
+
+#[cfg(test)]
+mod tests {
+    use super::{done, Request};
+    use std::path::Path;
+
+    /// Where in a folder a run of some words is stored, and whether it is a quick one.
+    fn place(words: &[&str]) -> Option<(String, bool)> {
+        let request = Request::of(words)?;
+        let place = request.place(Path::new("docs"));
+        Some((place.to_string_lossy().into(), request.is_quick))
+    }
+
+    #[test]
+    fn a_run_before_has_a_folder_of_its_own() {
+        let (runs, before) = ("docs/performance", "docs/performance/before");
+        assert_eq!(place(&[]), Some((runs.into(), false)));
+        assert_eq!(place(&["--quick"]), Some((runs.into(), true)));
+        assert_eq!(place(&["--before"]), Some((before.into(), false)));
+        let both = Some((before.into(), true));
+        assert_eq!(place(&["--before", "--quick"]), both);
+        assert_eq!(place(&["--quick", "--before"]), both);
+    }
+
+    #[test]
+    fn words_that_are_not_known_are_refused() {
+        for words in [
+            &[][..],
+            &["run"],
+            &["run", "--before"],
+            &["run", "--slow", "docs"],
+        ] {
+            let fault = done(words).expect_err("nothing to do");
+            assert!(fault.to_string().starts_with("usage"), "{fault}");
         }
     }
 }

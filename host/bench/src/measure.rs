@@ -98,6 +98,8 @@ fn times_of(work: &mut Work, turn: Duration) -> u32 {
 
 /// Measures some works in rounds in which they take turns.
 pub fn rounds(mut works: Vec<Named>, effort: Effort) -> Samples {
+    // Learnt before any work is tried: otherwise it would count for the first one, which would then run but once in its turn.
+    reading_cost();
     let times = |(_, work): &mut Named| times_of(work, effort.turn);
     let times: Vec<u32> = works.iter_mut().map(times).collect();
     take_turns(&mut works, &times, effort.rounds)

@@ -5,6 +5,11 @@ pub const CALLS: &str = "calls";
 /// The part with the searches without the check of the record.
 pub const SEARCHES: &str = "searches";
 
+/// The part with the searches without the check of the record, on the points of a series.
+pub fn searches_of(series: &str) -> String {
+    format!("{SEARCHES}, {series}")
+}
+
 /// The proved library.
 pub const PROVED: &str = "proved";
 /// The same algorithm in unverified Rust.
@@ -22,9 +27,17 @@ pub const CALL_RATIOS: [Ratio; 3] = [(PROVED, PLAIN), (MATRIX, PROVED), (PROVED,
 /// The ratios of a search. The proved one can be next to nothing beside the check, so it is not divided by.
 pub const SEARCH_RATIOS: [Ratio; 2] = [(MATRIX, PLAIN), (PROVED, MATRIX)];
 
+/// How the name of a time ends.
+const NS: &str = " ns";
+
 /// The name of a time.
 pub fn time(of: &str) -> String {
-    format!("{of} ns")
+    format!("{of}{NS}")
+}
+
+/// What a name is the time of, if it is a time's.
+pub fn timed(name: &str) -> Option<&str> {
+    name.strip_suffix(NS)
 }
 
 /// The name of a ratio.

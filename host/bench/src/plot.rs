@@ -1,129 +1,275 @@
-//! A small plot of the points as SVG: one panel for each thing that grows, times to the power of ten.
+//! The plot of growth as SVG: a panel for each series, a colour for each call, a stroke for each implementation.
+//!
+//! Times stand at a logarithmic axis, from the least to the greatest of a panel. The plot has a background of its own.
 
-use std::collections::BTreeMap;
+use std::ops::RangeInclusive;
 
-use crate::growth::{points, Point, SERIES};
-use crate::names::MATRIX;
+use crate::growth::{points, Point, Series, SERIES};
+use crate::names::{MATRIX, PLAIN, PROVED};
 use crate::summary::Summary;
 
-const PANEL_WIDTH: f64 = 300.0;
-const PANEL_HEIGHT: f64 = 240.0;
-const MARGIN: f64 = 50.0;
-const LEGEND_WIDTH: f64 = 190.0;
-/// The lowest and the highest time, as powers of ten of ns.
-const LOW: f64 = 2.0;
-const HIGH: f64 = 7.0;
-const COLOURS: [&str; 10] = [
-    "#1b6ca8", "#c0392b", "#27864a", "#8e44ad", "#d68910", "#117a65", "#566573", "#7b241c",
-    "#2e4053", "#b7950b",
+/// The size of a panel's inside.
+const WIDTH: f64 = 400.0;
+const HEIGHT: f64 = 300.0;
+/// What is around it: on its left the times, above it what stays the same, below it the amounts.
+const LEFT: f64 = 76.0;
+const ABOVE: f64 = 34.0;
+const BELOW: f64 = 50.0;
+/// What is free at the right of a panel.
+const RIGHT: f64 = 16.0;
+/// The legend above the panels.
+const LEGEND: f64 = 64.0;
+/// How many panels stand side by side.
+const ACROSS: usize = 2;
+/// How far the amounts at an axis are apart at least.
+const APART: f64 = 20.0;
+
+/// What the plot shows, for those who cannot see it.
+const TITLE: &str = "Times of the calls over what grows";
+
+const INK: &str = "#222222";
+const PALE: &str = "#e4e4e4";
+const PAPER: &str = "#ffffff";
+
+/// The calls that are drawn, each in its colour. All of these differ for the colour-blind too.
+const CALLS: [(&str, &str); 5] = [
+    ("interval count", "#5f5f5f"),
+    ("fragmentation", "#b8609a"),
+    ("place", "#008f68"),
+    ("list", "#0072b2"),
+    ("choose", "#d55e00"),
 ];
 
-/// The lines of a panel, by call and implementation.
-type Lines<'a> = BTreeMap<(&'a str, &'a str), Vec<&'a Point>>;
+/// The implementations, each with what it is called and its stroke.
+const STROKES: [(&str, &str, &str); 3] = [
+    (
+        PROVED,
+        "proved library",
+        "stroke-width=\"1.8\" stroke-dasharray=\"none\"",
+    ),
+    (
+        PLAIN,
+        "plain Rust",
+        "stroke-width=\"2\" stroke-linecap=\"round\" stroke-dasharray=\"0.1 4\"",
+    ),
+    (
+        MATRIX,
+        "cell matrix",
+        "stroke-width=\"1.5\" stroke-dasharray=\"7 4\"",
+    ),
+];
 
-/// Where a time stands in a panel, from the top.
-fn height_of(ns: f64) -> f64 {
-    let part = (ns.log10().clamp(LOW, HIGH) - LOW) / (HIGH - LOW);
-    MARGIN + PANEL_HEIGHT * (1.0 - part)
+/// The times at an axis, in ns: each power of ten, and its double and fivefold.
+fn ticks() -> impl Iterator<Item = f64> {
+    let powers = (0..12).map(|power| 10f64.powi(power));
+    powers.flat_map(|power| [power, 2.0 * power, 5.0 * power])
 }
 
-/// A text at a place.
+/// A time in words; it is a whole number of its unit.
+fn time(ns: f64) -> String {
+    match ns {
+        ns if ns < 1e3 => format!("{ns:.0} ns"),
+        ns if ns < 1e6 => format!("{:.0} µs", ns / 1e3),
+        _ => format!("{:.0} ms", ns / 1e6),
+    }
+}
+
+/// A text at a place; the anchor says which of its points stands there.
 fn text(x: f64, y: f64, anchor: &str, words: &str) -> String {
     format!("<text x=\"{x:.1}\" y=\"{y:.1}\" text-anchor=\"{anchor}\">{words}</text>\n")
 }
 
-/// A panel's frame, with the powers of ten and the name of what grows.
-fn frame(left: f64, series: &str, most: usize) -> String {
-    let mut svg = String::new();
-    let right = left + PANEL_WIDTH;
-    for power in LOW as i32..=HIGH as i32 {
-        let y = height_of(10f64.powi(power));
-        svg += &format!(
-            "<line x1=\"{left:.1}\" x2=\"{right:.1}\" y1=\"{y:.1}\" y2=\"{y:.1}\" stroke=\"#ddd\"/>\n"
+/// A straight line.
+fn line(from: (f64, f64), to: (f64, f64), look: &str) -> String {
+    let ((x1, y1), (x2, y2)) = (from, to);
+    format!("<line x1=\"{x1:.1}\" y1=\"{y1:.1}\" x2=\"{x2:.1}\" y2=\"{y2:.1}\" {look}/>\n")
+}
+
+/// A line of a panel: a call by an implementation.
+struct Curve {
+    colour: &'static str,
+    stroke: &'static str,
+    points: Vec<Point>,
+}
+
+/// A panel at a place: its left upper corner, inside.
+struct Panel<'a> {
+    series: &'a Series,
+    curves: Vec<Curve>,
+    corner: (f64, f64),
+}
+
+/// The curves of a series, in the order of the calls; the proved library is drawn last, over the others.
+fn curves(summary: &Summary, series: &Series) -> Vec<Curve> {
+    let all = points(summary, series);
+    let mut curves = Vec::new();
+    for (call, colour) in CALLS {
+        let with_task = series.drawn.map(|task| format!("{call}, {task}"));
+        for (implementation, _, stroke) in STROKES.into_iter().rev() {
+            let is_of = |point: &&Point| {
+                let is_call = point.call == call || Some(&point.call) == with_task.as_ref();
+                is_call && point.implementation == implementation
+            };
+            let points: Vec<Point> = all.iter().filter(is_of).cloned().collect();
+            if !points.is_empty() {
+                curves.push(Curve {
+                    colour,
+                    stroke,
+                    points,
+                });
+            }
+        }
+    }
+    curves
+}
+
+impl Panel<'_> {
+    /// All points of the panel.
+    fn points(&self) -> impl Iterator<Item = &Point> {
+        self.curves.iter().flat_map(|curve| &curve.points)
+    }
+
+    /// The least and the greatest time at the axis: the ticks around all times.
+    fn range(&self) -> RangeInclusive<f64> {
+        let times = || self.points().map(|point| point.ns);
+        let least = times().fold(f64::INFINITY, f64::min);
+        let greatest = times().fold(0.0, f64::max);
+        let low = ticks().filter(|&tick| tick <= least).last();
+        let high = ticks().find(|&tick| tick > greatest);
+        low.unwrap_or(1.0)..=high.unwrap_or(1e12)
+    }
+
+    /// Where an amount stands.
+    fn x(&self, amount: usize) -> f64 {
+        let most = self.points().map(|point| point.amount).max();
+        self.corner.0 + WIDTH * amount as f64 / most.unwrap_or(1).max(1) as f64
+    }
+
+    /// Where a time stands in a range.
+    fn y(&self, range: &RangeInclusive<f64>, ns: f64) -> f64 {
+        let (low, high) = (range.start().log10(), range.end().log10());
+        let part = (ns.log10() - low) / (high - low);
+        self.corner.1 + HEIGHT * (1.0 - part)
+    }
+
+    /// The times at the left, with a pale line for each.
+    fn times(&self, range: &RangeInclusive<f64>) -> String {
+        let (left, right) = (self.corner.0, self.corner.0 + WIDTH);
+        let tick = |tick: f64| {
+            let y = self.y(range, tick);
+            let stroke = format!("stroke=\"{PALE}\"");
+            line((left, y), (right, y), &stroke) + &text(left - 8.0, y + 4.0, "end", &time(tick))
+        };
+        let seen = ticks().filter(|tick| range.contains(tick));
+        seen.map(tick).collect()
+    }
+
+    /// The amounts below, as many as there is room for.
+    fn amounts(&self) -> String {
+        let mut amounts: Vec<usize> = self.points().map(|point| point.amount).collect();
+        amounts.sort();
+        amounts.dedup();
+        let base = self.corner.1 + HEIGHT;
+        let mut svg = String::new();
+        let mut free_from = f64::NEG_INFINITY;
+        for amount in amounts {
+            let x = self.x(amount);
+            let stroke = format!("stroke=\"{INK}\"");
+            svg += &line((x, base), (x, base + 4.0), &stroke);
+            if x >= free_from {
+                svg += &text(x, base + 18.0, "middle", &amount.to_string());
+                free_from = x + APART;
+            }
+        }
+        svg
+    }
+
+    /// The frame, with what grows below it and what stays the same above it.
+    fn frame(&self) -> String {
+        let (x, y) = self.corner;
+        let middle = x + WIDTH / 2.0;
+        let frame = format!(
+            "<rect x=\"{x:.1}\" y=\"{y:.1}\" width=\"{WIDTH}\" height=\"{HEIGHT}\" fill=\"none\" stroke=\"{INK}\"/>\n"
         );
-        svg += &text(left - 6.0, y + 4.0, "end", &format!("1e{power}"));
+        let axis = text(middle, y + HEIGHT + 36.0, "middle", self.series.axis);
+        frame
+            + &format!("<g font-weight=\"bold\">{axis}</g>\n")
+            + &text(middle, y - 14.0, "middle", self.series.beside)
+            + &text(x - LEFT + 8.0, y - 14.0, "start", "time of a call, log")
     }
-    let base = MARGIN + PANEL_HEIGHT;
-    svg += &text(left, base + 16.0, "middle", "0");
-    svg += &text(right, base + 16.0, "middle", &most.to_string());
-    let middle = left + PANEL_WIDTH / 2.0;
-    svg + &text(
-        middle,
-        base + 32.0,
-        "middle",
-        &format!("{series} (ns upwards)"),
-    )
-}
 
-/// One line of a panel.
-fn polyline(left: f64, most: usize, points: &[&Point], colour: &str, is_dashed: bool) -> String {
-    let place = |point: &&Point| {
-        let x = left + PANEL_WIDTH * point.amount as f64 / most as f64;
-        format!("{x:.1},{:.1}", height_of(point.ns))
-    };
-    let places: Vec<String> = points.iter().map(place).collect();
-    let dash = if is_dashed {
-        " stroke-dasharray=\"5 3\""
-    } else {
-        ""
-    };
-    format!(
-        "<polyline fill=\"none\" stroke=\"{colour}\" stroke-width=\"1.5\"{dash} points=\"{}\"/>\n",
-        places.join(" ")
-    )
-}
-
-/// The lines of one series.
-fn lines_of(points: &[Point]) -> Lines<'_> {
-    let mut lines = Lines::new();
-    for point in points {
-        let key = (point.call.as_str(), point.implementation.as_str());
-        lines.entry(key).or_default().push(point);
+    /// A curve.
+    fn curve(&self, range: &RangeInclusive<f64>, curve: &Curve) -> String {
+        let place =
+            |point: &Point| format!("{:.1},{:.1}", self.x(point.amount), self.y(range, point.ns));
+        let places: Vec<String> = curve.points.iter().map(place).collect();
+        format!(
+            "<polyline fill=\"none\" stroke=\"{}\" {} points=\"{}\"/>\n",
+            curve.colour,
+            curve.stroke,
+            places.join(" ")
+        )
     }
-    lines
-}
 
-/// What a line stands for, in its colour.
-fn legend_line(index: usize, x: f64, call: &str, implementation: &str) -> String {
-    let colour = COLOURS[index % COLOURS.len()];
-    let y = MARGIN + 16.0 * index as f64;
-    let words = text(x, y, "start", &format!("{call} ({implementation})"));
-    format!("<g fill=\"{colour}\">{words}</g>\n")
-}
-
-/// One panel, with its lines.
-fn panel(left: f64, series: &str, lines: &Lines) -> String {
-    let amounts = lines.values().flatten().map(|point| point.amount);
-    let most = amounts.max().unwrap_or(1).max(1);
-    let mut svg = frame(left, series, most);
-    for (index, ((_, implementation), points)) in lines.iter().enumerate() {
-        let colour = COLOURS[index % COLOURS.len()];
-        let is_dashed = *implementation == MATRIX;
-        svg += &polyline(left, most, points, colour, is_dashed);
+    /// The panel.
+    fn svg(&self) -> String {
+        if self.curves.is_empty() {
+            return String::new();
+        }
+        let range = self.range();
+        let curves = self.curves.iter().map(|curve| self.curve(&range, curve));
+        let curves: String = curves.collect();
+        self.times(&range) + &self.amounts() + &curves + &self.frame()
     }
-    svg
+}
+
+/// A short line and what it stands for.
+fn key(x: f64, y: f64, look: &str, words: &str) -> String {
+    line((x, y), (x + 34.0, y), look) + &text(x + 42.0, y + 4.0, "start", words)
+}
+
+/// What the colours and the strokes stand for.
+fn legend() -> String {
+    let step = 150.0;
+    let place = |index: usize| LEFT + step * index as f64;
+    let calls = CALLS
+        .into_iter()
+        .enumerate()
+        .map(|(index, (call, colour))| {
+            let look = format!("stroke=\"{colour}\" stroke-width=\"4\"");
+            key(place(index), 20.0, &look, call)
+        });
+    let strokes = STROKES.into_iter().enumerate();
+    let strokes = strokes.map(|(index, (_, words, stroke))| {
+        let look = format!("stroke=\"{INK}\" {stroke}");
+        key(place(index), 44.0, &look, words)
+    });
+    let keys: String = calls.chain(strokes).collect();
+    text(8.0, 24.0, "start", "call") + &text(8.0, 48.0, "start", "made by") + &keys
 }
 
 /// The whole plot, of the medians over the runs.
 pub fn svg(summary: &Summary) -> String {
-    let width = 3.0 * (PANEL_WIDTH + MARGIN) + MARGIN + LEGEND_WIDTH;
-    let height = PANEL_HEIGHT + 2.0 * MARGIN;
+    let (across, down) = (LEFT + WIDTH + RIGHT, ABOVE + HEIGHT + BELOW);
+    let width = ACROSS as f64 * across;
+    let height = LEGEND + SERIES.len().div_ceil(ACROSS) as f64 * down;
     let mut svg = format!(
-        "<svg xmlns=\"http://www.w3.org/2000/svg\" width=\"{width}\" height=\"{height}\" \
-         font-family=\"sans-serif\" font-size=\"11\">\n<rect width=\"100%\" height=\"100%\" fill=\"white\"/>\n"
+        "<svg xmlns=\"http://www.w3.org/2000/svg\" width=\"{width}\" height=\"{height}\" viewBox=\"0 0 {width} {height}\" \
+         font-family=\"sans-serif\" font-size=\"12\" fill=\"{INK}\">\n\
+         <title>{TITLE}</title>\n\
+         <rect width=\"100%\" height=\"100%\" fill=\"{PAPER}\"/>\n"
     );
-    let mut legend = String::new();
-    for (index, series) in SERIES.into_iter().enumerate() {
-        let left = MARGIN + index as f64 * (PANEL_WIDTH + MARGIN);
-        let points = points(summary, series);
-        let lines = lines_of(&points);
-        svg += &panel(left, series, &lines);
-        let keys = lines.keys().enumerate();
-        let x = width - LEGEND_WIDTH;
-        // All panels have the same lines, so the last legend serves all.
-        legend = keys
-            .map(|(index, (call, implementation))| legend_line(index, x, call, implementation))
-            .collect();
+    svg += &legend();
+    for (index, series) in SERIES.iter().enumerate() {
+        let (column, row) = (index % ACROSS, index / ACROSS);
+        let x = LEFT + across * column as f64;
+        let y = LEGEND + ABOVE + down * row as f64;
+        let panel = Panel {
+            series,
+            curves: curves(summary, series),
+            corner: (x, y),
+        };
+        svg += &panel.svg();
     }
-    svg + &legend + "</svg>\n"
+    svg + "</svg>\n"
 }

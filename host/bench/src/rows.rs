@@ -4,11 +4,11 @@ use std::cell::RefCell;
 use std::hint::black_box;
 
 use calls::{Calls, SUBJECTS};
-use oracle::layout::RECORD_SIZE;
 use oracle::listing::LIST_ROOM;
 use oracle::Position;
 use plain::fragments;
 
+use crate::bytes::Bytes;
 use crate::loads::{Load, Probe, PROBE_NUMBER};
 use crate::measure::{half, rounds, whole, Effort, Named, Samples, Work};
 use crate::names::{MATRIX, MEMCMP, PLAIN, PROVED};
@@ -34,7 +34,7 @@ fn subjects<'a>(work: impl Fn(&'static dyn Calls) -> Work<'a>) -> Vec<Named<'a>>
 /// The comparison of two equal records.
 fn memcmp(load: &Load) -> Work<'_> {
     let copy = load.record.clone();
-    whole(move || black_box(&load.record[..]) == black_box(&copy[..]))
+    whole(move || black_box(&*load.record) == black_box(&*copy))
 }
 
 /// The interval count: the check of the record, and one byte.
@@ -70,30 +70,41 @@ fn fragmentation_row(load: &Load, effort: Effort) -> Row {
     row(load, "fragmentation".into(), works, effort)
 }
 
-/// The calls that take no task: new, interval count and fragmentation.
-pub fn simple_rows(load: &Load, effort: Effort) -> Vec<Row> {
-    let made = RefCell::new(vec![0; RECORD_SIZE]);
-    let new = |subject: &'static dyn Calls| {
+/// New.
+fn new_row(load: &Load, effort: Effort) -> Row {
+    let made = RefCell::new(Bytes::zeros());
+    let works = subjects(|subject| {
         let made = &made;
         whole(move || subject.new(&mut made.borrow_mut(), load.rows, black_box(&load.kinds)))
-    };
+    });
+    row(load, "new".into(), works, effort)
+}
+
+/// The calls that take no task and leave the record: interval count and fragmentation.
+pub fn reading_rows(load: &Load, effort: Effort) -> Vec<Row> {
     let counts = subjects(|subject| count(subject, load));
     vec![
-        row(load, "new".into(), subjects(new), effort),
         row(load, "interval count".into(), counts, effort),
         fragmentation_row(load, effort),
     ]
 }
 
-/// Place and release of a task at the position that choose gives.
-pub fn change_rows(load: &Load, probe: &Probe, effort: Effort) -> Vec<Row> {
+/// The calls that take no task: new, interval count and fragmentation.
+pub fn simple_rows(load: &Load, effort: Effort) -> Vec<Row> {
+    let mut rows = vec![new_row(load, effort)];
+    rows.extend(reading_rows(load, effort));
+    rows
+}
+
+/// Place or release of a task at the position that choose gives.
+fn change_row(load: &Load, probe: &Probe, is_place: bool, effort: Effort) -> Row {
     let chosen = SUBJECTS[0].choose(&load.record, &probe.task);
     assert!(chosen >= 0, "{} has no place for {}", load.name, probe.name);
     let Position { column, bottom } = Position::of_answer(chosen);
     let records = RefCell::new(vec![load.record.clone(); RECORDS]);
-    let work = |subject: &'static dyn Calls, first: bool| {
+    let works = subjects(|subject| {
         let records = &records;
-        half(first, RECORDS, move |is_place, index| {
+        half(is_place, RECORDS, move |is_place, index| {
             let record = &mut records.borrow_mut()[index];
             let answer = match is_place {
                 true => {
@@ -104,12 +115,19 @@ pub fn change_rows(load: &Load, probe: &Probe, effort: Effort) -> Vec<Row> {
             };
             assert_eq!(answer, 0);
         })
-    };
-    let works = |first| subjects(|subject| work(subject, first));
-    vec![
-        row(load, named("place", probe), works(true), effort),
-        row(load, named("release", probe), works(false), effort),
-    ]
+    });
+    let call = if is_place { "place" } else { "release" };
+    row(load, named(call, probe), works, effort)
+}
+
+/// Place of a task.
+pub fn place_row(load: &Load, probe: &Probe, effort: Effort) -> Row {
+    change_row(load, probe, true, effort)
+}
+
+/// Release of a task.
+pub fn release_row(load: &Load, probe: &Probe, effort: Effort) -> Row {
+    change_row(load, probe, false, effort)
 }
 
 /// A call with its task.
@@ -138,31 +156,32 @@ pub fn search_rows(load: &Load, probe: &Probe, effort: Effort) -> Vec<Row> {
     ]
 }
 
-/// The searches of list and choose without the record's check.
+/// The search of list without the record's check.
 ///
 /// The searches of plain and of the matrix can be called by themselves; the proved one is its call
 /// less the interval count.
-pub fn search_alone(load: &Load, probe: &Probe, effort: Effort) -> Vec<Row> {
+pub fn list_alone(load: &Load, probe: &Probe, effort: Effort) -> Row {
     let record = plain::calls::checked(&load.record).expect("loads are sound");
     let output = RefCell::new(vec![0; LIST_ROOM]);
     let (bytes, task, proved) = (&load.record, &probe.task, SUBJECTS[0]);
-    let plain_list =
-        || plain::calls::search_list(black_box(record), task, &mut output.borrow_mut());
-    let matrix_list = || matrix::search_list(black_box(record), task, &mut output.borrow_mut());
-    let lists = [
-        whole(plain_list),
-        whole(matrix_list),
+    let works = [
+        whole(|| plain::calls::search_list(black_box(record), task, &mut output.borrow_mut())),
+        whole(|| matrix::search_list(black_box(record), task, &mut output.borrow_mut())),
         whole(|| proved.list(black_box(bytes), task, &mut output.borrow_mut())),
     ];
-    let chooses = [
+    alone(load, named("list", probe), works, effort)
+}
+
+/// The search of choose without the record's check, in the same way.
+pub fn choose_alone(load: &Load, probe: &Probe, effort: Effort) -> Row {
+    let record = plain::calls::checked(&load.record).expect("loads are sound");
+    let (bytes, task, proved) = (&load.record, &probe.task, SUBJECTS[0]);
+    let works = [
         whole(|| plain::calls::search_choose(black_box(record), task)),
         whole(|| matrix::search_choose(black_box(record), task)),
         whole(|| proved.choose(black_box(bytes), task)),
     ];
-    vec![
-        alone(load, named("list", probe), lists, effort),
-        alone(load, named("choose", probe), chooses, effort),
-    ]
+    alone(load, named("choose", probe), works, effort)
 }
 
 /// Fragmentation without the record's check: that of plain and the flood fill by themselves, the proved one

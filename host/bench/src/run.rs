@@ -81,7 +81,7 @@ impl Figure {
             name,
         } = &self.key;
         // No more digits than say something: a time is in ns.
-        let digits = if name.ends_with(" ns") { 0 } else { 4 };
+        let digits = if names::timed(name).is_some() { 0 } else { 4 };
         let [lower, median, upper] = self.quartiles;
         format!("{part}\t{load}\t{call}\t{name}\t{lower:.digits$}\t{median:.digits$}\t{upper:.digits$}\n")
     }

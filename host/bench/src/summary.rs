@@ -1,7 +1,9 @@
 //! The figures of all stored runs side by side: what is stated is never that of one run.
 
+use std::path::Path;
+
 use crate::measure::median;
-use crate::run::{Figure, Key, Run};
+use crate::run::{stored, Figure, Key, Run};
 
 /// How many runs there must be before anything is stated.
 pub const LEAST_RUNS: usize = 3;
@@ -54,10 +56,15 @@ impl Line {
 /// What all runs must have in common.
 pub const COMMON: [&str; 3] = ["compiler", "kit", "processor"];
 
+/// What two runs must have in common and have not, if anything.
+fn unlike(first: &Run, run: &Run) -> Option<&'static str> {
+    let differs = |name: &&str| run.about.get(*name) != first.about.get(*name);
+    COMMON.into_iter().find(differs)
+}
+
 /// What keeps a run from standing beside the first one, if anything does.
 fn difference(first: &Run, run: &Run) -> Option<String> {
-    let differs = |name: &&str| run.about.get(*name) != first.about.get(*name);
-    if let Some(name) = COMMON.into_iter().find(differs) {
+    if let Some(name) = unlike(first, run) {
         return Some(format!("another {name}"));
     }
     let keys = |run: &Run| -> Vec<Key> { run.figures.iter().map(|f| f.key.clone()).collect() };
@@ -113,5 +120,34 @@ impl Summary {
         };
         let line = self.lines.iter().find(|line| line.key == key)?;
         Some(line.spread())
+    }
+}
+
+/// The folder, in that of the runs, with runs of the library before a change.
+pub const BEFORE: &str = "before";
+
+/// All that is stored.
+#[derive(Clone, Debug)]
+pub struct Stored {
+    /// The runs of the library as it is.
+    pub now: Summary,
+    /// Those of the library before a change, if there are any.
+    pub before: Option<Summary>,
+}
+
+impl Stored {
+    /// Reads the runs of a folder. Those before must have been made with the same compiler, kit and processor.
+    pub fn read(folder: &Path) -> Result<Stored, String> {
+        let now = Summary::of(stored(folder)?)?;
+        let folder = folder.join(BEFORE);
+        if !folder.exists() {
+            return Ok(Stored { now, before: None });
+        }
+        let before = Summary::of(stored(&folder)?).map_err(|fault| format!("before: {fault}"))?;
+        if let Some(name) = unlike(&now.runs[0], &before.runs[0]) {
+            return Err(format!("the runs before have another {name}"));
+        }
+        let before = Some(before);
+        Ok(Stored { now, before })
     }
 }

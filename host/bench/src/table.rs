@@ -1,14 +1,15 @@
 //! The Markdown tables, and the lines at the top, from all stored runs.
 
-use crate::growth::points;
+use crate::growth::{points, Series};
 use crate::names::{
     ratio, time, Ratio, CALLS, CALL_RATIOS, MATRIX, PLAIN, PROVED, SEARCHES, SEARCH_RATIOS,
 };
+use crate::run::Run;
 use crate::summary::{spread, Spread, Summary, COMMON};
-use crate::targets::{Better, Measure, CHECK, CHOICE, FLOOD, SETS, SLOWNESS, TARGETS};
+use crate::targets::{Better, Measure, Place, CHECK, CHOICE, FLOOD, SETS, SLOWNESS, TARGETS};
 
 /// What stands where there is no figure.
-const NONE: &str = "–";
+pub const NONE: &str = "–";
 
 /// One line of a table.
 fn line(cells: &[String]) -> String {
@@ -16,14 +17,14 @@ fn line(cells: &[String]) -> String {
 }
 
 /// A table.
-fn table(heads: &[String], rows: &[Vec<String>]) -> String {
+pub fn table(heads: &[String], rows: &[Vec<String>]) -> String {
     let marks = vec!["---".to_string(); heads.len()];
     let rows: String = rows.iter().map(|row| line(row)).collect();
     line(heads) + &line(&marks) + &rows
 }
 
 /// A ratio, with about three digits.
-fn shown(ratio: f64) -> String {
+pub fn shown(ratio: f64) -> String {
     let digits = match ratio.abs() {
         size if size < 0.1 => 3,
         size if size < 10.0 => 2,
@@ -34,7 +35,7 @@ fn shown(ratio: f64) -> String {
 }
 
 /// A ratio in all runs.
-fn shown_spread(spread: Spread) -> String {
+pub fn shown_spread(spread: Spread) -> String {
     let Spread {
         least,
         median,
@@ -93,21 +94,17 @@ pub fn searches(summary: &Summary) -> String {
 pub fn targets(summary: &Summary) -> String {
     let heads = [
         "target",
-        "load",
+        "load, or what grows",
         "worst call: median (least to greatest)",
         "judged",
     ];
     let mut rows = Vec::new();
     for target in TARGETS {
-        let loads = match target.load {
-            Some(load) => vec![load],
-            None => target.measure.loads(summary),
-        };
-        for load in loads {
-            let by_run = target.measure.worst(summary, load);
+        for place in target.places(summary) {
+            let by_run = target.measure.worst(summary, place);
             rows.push(vec![
                 target.words.to_string(),
-                load.to_string(),
+                place.words(),
                 shown_spread(spread(&by_run)),
                 target.verdict(&by_run),
             ]);
@@ -120,7 +117,7 @@ pub fn targets(summary: &Summary) -> String {
 fn by_load(summary: &Summary, measure: Measure) -> String {
     let loads = measure.loads(summary);
     let words = |load: &&str| {
-        let by_run = spread(&measure.worst(summary, load));
+        let by_run = spread(&measure.worst(summary, Place::Load(load)));
         let worst = match measure.better {
             Better::Lower => by_run.greatest,
             Better::Higher => by_run.least,
@@ -147,29 +144,30 @@ pub fn top(summary: &Summary) -> String {
 
 /// What is said about the runs.
 pub fn runs(summary: &Summary) -> String {
-    let value = |run: usize, name: &str| {
-        let value = summary.runs[run].about.get(name);
-        value.map_or(NONE, String::as_str).to_string()
+    let value = |name: &str| {
+        let value = summary.runs[0].about.get(name);
+        value.map_or(NONE, String::as_str)
     };
-    let common: String = COMMON
-        .iter()
-        .map(|name| format!("- {name}: {}\n", value(0, name)))
-        .collect();
+    let common = COMMON.map(|name| format!("- {name}: {}\n", value(name)));
+    format!("{}\n{}", common.concat(), own(summary, "performance"))
+}
+
+/// A table of what is said about each run by itself, with the file of the run in a folder.
+pub fn own(summary: &Summary, folder: &str) -> String {
     let names = summary.runs[0].about.keys().map(String::as_str);
     let own: Vec<&str> = names.filter(|name| !COMMON.contains(name)).collect();
     let mut heads = vec!["run".to_string()];
     heads.extend(own.iter().map(|name| name.to_string()));
-    let row = |run: usize| {
-        let number = run + 1;
-        let link = format!("[{number}](performance/run-{number}.tsv)");
-        let values = own.iter().map(|name| value(run, name));
-        std::iter::once(link).chain(values).collect()
+    let row = |(run, number): (&Run, usize)| {
+        let link = format!("[{number}]({folder}/run-{number}.tsv)");
+        let value = |name: &&str| run.about.get(*name).map_or(NONE, String::as_str).into();
+        std::iter::once(link).chain(own.iter().map(value)).collect()
     };
-    let rows: Vec<Vec<String>> = (0..summary.runs.len()).map(row).collect();
-    format!("{common}\n{}", table(&heads, &rows))
+    let rows: Vec<Vec<String>> = summary.runs.iter().zip(1..).map(row).collect();
+    table(&heads, &rows)
 }
 
-/// The calls of the growth tables, with their implementations.
+/// The calls of a growth table that are made without a task, or with the only one.
 const GROWING: [(&str, &str); 8] = [
     (PROVED, "interval count"),
     (PROVED, "fragmentation"),
@@ -181,18 +179,43 @@ const GROWING: [(&str, &str); 8] = [
     (MATRIX, "choose"),
 ];
 
+/// The calls of the growth table with two tasks.
+const GROWING_BY_TASK: [(&str, &str); 12] = [
+    (PROVED, "interval count"),
+    (PROVED, "fragmentation"),
+    (PROVED, "list, 5 blocks"),
+    (PROVED, "choose, 5 blocks"),
+    (PROVED, "place, comb of 16"),
+    (PROVED, "list, comb of 16"),
+    (PROVED, "choose, comb of 16"),
+    (MATRIX, "fragmentation"),
+    (MATRIX, "list, 5 blocks"),
+    (MATRIX, "choose, 5 blocks"),
+    (MATRIX, "list, comb of 16"),
+    (MATRIX, "choose, comb of 16"),
+];
+
+/// The calls of a series' table, with their implementations.
+fn growing(series: &Series) -> &'static [(&'static str, &'static str)] {
+    match series.drawn {
+        None => &GROWING,
+        Some(_) => &GROWING_BY_TASK,
+    }
+}
+
 /// The table of a series.
-pub fn growth(summary: &Summary, series: &str) -> String {
+pub fn growth(summary: &Summary, series: &Series) -> String {
     let points = points(summary, series);
-    let mut heads = vec![series.to_string()];
-    heads.extend(GROWING.map(|(implementation, call)| match implementation {
+    let mut heads = vec![series.name.to_string()];
+    let head = |&(implementation, call): &(&str, &str)| match implementation {
         PROVED => call.to_string(),
         _ => format!("{implementation} {call}"),
-    }));
+    };
+    heads.extend(growing(series).iter().map(head));
     let mut amounts: Vec<usize> = points.iter().map(|point| point.amount).collect();
     amounts.dedup();
     let row = |amount: usize| {
-        let cell = |(implementation, call): (&str, &str)| {
+        let cell = |&(implementation, call): &(&str, &str)| {
             let mut points = points.iter();
             let point = points.find(|point| {
                 point.amount == amount
@@ -201,7 +224,7 @@ pub fn growth(summary: &Summary, series: &str) -> String {
             });
             point.map_or(NONE.into(), |point| format!("{:.0}", point.ns))
         };
-        let cells = GROWING.into_iter().map(cell);
+        let cells = growing(series).iter().map(cell);
         std::iter::once(amount.to_string()).chain(cells).collect()
     };
     let rows: Vec<Vec<String>> = amounts.into_iter().map(row).collect();

@@ -1,6 +1,7 @@
-//! The targets, judged in every stored run by the worst call on a load.
+//! The targets, judged in every stored run by the worst call on a load, or by the worst of all points of a series.
 
-use crate::names::{ratio, Ratio, CALLS, MATRIX, MEMCMP, PLAIN, PROVED, SEARCHES};
+use crate::growth::{Series, SERIES};
+use crate::names::{ratio, searches_of, Ratio, CALLS, MATRIX, MEMCMP, PLAIN, PROVED, SEARCHES};
 use crate::summary::{Line, Summary};
 
 /// Which of two ratios is the better one.
@@ -25,6 +26,15 @@ pub struct Measure {
     pub better: Better,
 }
 
+/// Where a target is judged.
+#[derive(Clone, Copy, Debug, PartialEq, Eq)]
+pub enum Place<'a> {
+    /// On a load.
+    Load(&'a str),
+    /// On all points of a series.
+    Growth(&'static Series),
+}
+
 /// A target.
 #[derive(Clone, Copy, Debug)]
 pub struct Target {
@@ -34,7 +44,7 @@ pub struct Target {
     pub measure: Measure,
     /// The worst ratio that meets it.
     pub bound: f64,
-    /// The only load that it is about, if it is not about all that have its calls.
+    /// The only load that it is about, if it is not about all loads and points that have its calls.
     pub load: Option<&'static str>,
 }
 
@@ -46,6 +56,8 @@ pub const CHOICE: Measure = Measure::higher(CALLS, "choose", (MATRIX, PROVED));
 pub const SEARCH: Measure = Measure::lower(SEARCHES, "list", (PROVED, MATRIX));
 /// The check of the record beside memcmp.
 pub const CHECK: Measure = Measure::lower(CALLS, "interval count", (PROVED, MEMCMP));
+/// The check of the record beside plain Rust's.
+pub const CHECK_TWIN: Measure = Measure::lower(CALLS, "interval count", (PROVED, PLAIN));
 /// Fragmentation beside plain Rust.
 pub const SETS: Measure = Measure::lower(CALLS, "fragmentation", (PROVED, PLAIN));
 /// Fragmentation beside the flood fill of a cell matrix.
@@ -55,30 +67,40 @@ pub const FLOOD_ALONE: Measure = Measure::lower(SEARCHES, "fragmentation", (PROV
 
 /// The least ratio above 1 that a stored run can have: it has four digits.
 const ABOVE_ONE: f64 = 1.0001;
+/// The greatest ratio below 1 that it can have.
+const BELOW_ONE: f64 = 0.9999;
 
 /// The targets.
-pub const TARGETS: [Target; 8] = [
-    SLOWNESS.target("each call takes at most 2 times as long as plain", 2.0),
-    CHOICE.target(
-        "choose is at least 5 times as fast as matrix, check included",
-        5.0,
-    ),
-    SEARCH.target(
-        "the search of list takes at most as long as matrix, check left out",
-        1.0,
-    ),
+pub const TARGETS: [Target; 10] = [
+    CHECK
+        .target(
+            "the check of the record takes at most 2 times as long as memcmp",
+            2.0,
+        )
+        .on("empty, 128 rows"),
     CHECK
         .target(
             "the check of the record takes at most 4 times as long as memcmp",
             4.0,
         )
-        .on("empty, 128 rows"),
-    CHECK
-        .target(
-            "the check of the record takes at most 8 times as long as memcmp",
-            8.0,
-        )
         .on("20 tasks of 5 blocks"),
+    CHECK.target(
+        "the check of the record takes at most 40 times as long as memcmp",
+        40.0,
+    ),
+    CHECK_TWIN.target(
+        "the check of the record takes at most 1.3 times as long as plain's",
+        1.3,
+    ),
+    CHOICE.target(
+        "choose is at least 5 times as fast as matrix, check included",
+        5.0,
+    ),
+    SEARCH.target(
+        "the search of list is faster than matrix, check left out",
+        BELOW_ONE,
+    ),
+    SLOWNESS.target("each call takes at most 2 times as long as plain", 2.0),
     SETS.target("fragmentation takes at most 2 times as long as plain", 2.0),
     FLOOD.target(
         "fragmentation is faster than the flood fill of matrix, check included",
@@ -111,7 +133,7 @@ impl Measure {
         }
     }
 
-    /// A target for it, on all loads that have its calls.
+    /// A target for it, wherever its calls are measured.
     const fn target(self, words: &'static str, bound: f64) -> Target {
         Target {
             words,
@@ -129,9 +151,18 @@ impl Measure {
         }
     }
 
-    /// The figures that count.
-    fn lines<'a>(&self, summary: &'a Summary) -> impl Iterator<Item = &'a Line> {
-        let Measure { part, call, .. } = *self;
+    /// The part of a run that has its figures for a place.
+    fn part(&self, place: Place) -> String {
+        match place {
+            Place::Load(_) => self.part.into(),
+            Place::Growth(series) if self.part == SEARCHES => searches_of(series.name),
+            Place::Growth(series) => series.name.into(),
+        }
+    }
+
+    /// The figures of a part that count.
+    fn lines<'a>(&self, summary: &'a Summary, part: String) -> impl Iterator<Item = &'a Line> {
+        let call = self.call;
         let name = ratio(self.ratio);
         summary.lines.iter().filter(move |line| {
             let key = &line.key;
@@ -141,15 +172,27 @@ impl Measure {
 
     /// The loads on which it is measured, in their order.
     pub fn loads<'a>(&self, summary: &'a Summary) -> Vec<&'a str> {
-        let lines = self.lines(summary);
+        let lines = self.lines(summary, self.part.into());
         let mut loads: Vec<&str> = lines.map(|line| line.key.load.as_str()).collect();
         loads.dedup();
         loads
     }
 
-    /// The worst ratio of the calls on a load, in each run.
-    pub fn worst(&self, summary: &Summary, load: &str) -> Vec<f64> {
-        let lines = self.lines(summary).filter(|line| line.key.load == load);
+    /// Where it is measured: the loads, and then the series.
+    pub fn places<'a>(&self, summary: &'a Summary) -> Vec<Place<'a>> {
+        let loads = self.loads(summary).into_iter().map(Place::Load);
+        let series = SERIES.iter().map(Place::Growth);
+        let is_measured = |place: &Place| self.lines(summary, self.part(*place)).next().is_some();
+        loads.chain(series.filter(is_measured)).collect()
+    }
+
+    /// The worst ratio of the calls at a place, in each run.
+    pub fn worst(&self, summary: &Summary, place: Place) -> Vec<f64> {
+        let is_there = |line: &&Line| match place {
+            Place::Load(load) => line.key.load == load,
+            Place::Growth(_) => true,
+        };
+        let lines = self.lines(summary, self.part(place)).filter(is_there);
         let by_run = lines.map(|line| line.by_run.clone());
         let worse = |worst: Vec<f64>, other: Vec<f64>| {
             let pairs = worst.into_iter().zip(other);
@@ -157,7 +200,17 @@ impl Measure {
         };
         by_run
             .reduce(worse)
-            .expect("a load that is judged has a call that counts")
+            .expect("a place that is judged has a call that counts")
+    }
+}
+
+impl Place<'_> {
+    /// What stands in the table.
+    pub fn words(&self) -> String {
+        match self {
+            Place::Load(load) => load.to_string(),
+            Place::Growth(series) => format!("growth: {}", series.axis),
+        }
     }
 }
 
@@ -167,6 +220,14 @@ impl Target {
         Target {
             load: Some(load),
             ..self
+        }
+    }
+
+    /// Where it is judged.
+    pub fn places<'a>(&self, summary: &'a Summary) -> Vec<Place<'a>> {
+        match self.load {
+            Some(load) => vec![Place::Load(load)],
+            None => self.measure.places(summary),
         }
     }
 

@@ -5,6 +5,7 @@ use crate::fragments;
 use crate::layout::*;
 use crate::listing::Search;
 use crate::record::{self, Entry};
+use crate::sound::is_sound;
 use crate::task::{is_sized, Task};
 
 /// The refusals (MODEL 13.1).
@@ -44,7 +45,7 @@ fn answer(result: Answer) -> i32 {
 /// The bytes as a sound record, or −1 or −2. It is the first test of every call but new.
 pub fn checked(bytes: &[u8]) -> Result<&Record, i32> {
     let record: &Record = bytes.try_into().map_err(|_| refusal::RECORD_LENGTH)?;
-    if record::is_sound(record) {
+    if is_sound(record) {
         Ok(record)
     } else {
         Err(refusal::RECORD_NOT_SOUND)

@@ -1,7 +1,7 @@
 //! The choice: the position with least n / s, looked for where a block touches an end of its interval.
 
 use crate::column::Interval;
-use crate::layout::Record;
+use crate::layout::{Record, MAX_BLOCKS};
 use crate::listing::{Range, Search};
 use crate::record::{columns, home};
 use crate::task::Task;
@@ -25,88 +25,109 @@ struct Best {
     stretch: u32,
 }
 
+/// The search for the best position of a task.
+struct Choice<'a> {
+    record: &'a Record,
+    task: &'a Task,
+    /// For each block, the number of the interval in which it last stood: as the bottom rises, it stands there or higher.
+    stands: [u8; MAX_BLOCKS],
+    best: Option<Best>,
+}
+
 /// The chosen column and bottom; none where no position fits.
 pub fn chosen(record: &Record, task: &Task) -> Option<(usize, i32)> {
     let mut search = Search::START;
-    let mut best = None;
+    let mut choice = Choice::of(record, task);
     for column in 0..columns(record) {
         let ranges = search.column_ranges(record, task, column);
+        choice.stands = LOWEST;
         for &range in ranges.all() {
-            climb_range(record, task, column, range, ranges.step, &mut best);
+            choice.climb(column, range, ranges.step);
         }
     }
-    best.map(|best| (best.column, best.bottom))
+    choice.best.map(|best| (best.column, best.bottom))
 }
 
-/// Looks at a range from its first bottom up, and passes over those that cannot be better.
-///
-/// While every block stays in its interval, the stretch stays and the pieces are least at the
-/// lowest or at the highest bottom, where a block touches an end of its interval.
-fn climb_range(
-    record: &Record,
-    task: &Task,
-    column: usize,
-    range: Range,
-    step: i32,
-    best: &mut Option<Best>,
-) {
-    let mut bottom = range.first;
-    while bottom <= range.last {
-        // Every bottom of a range fits, so a score is always there.
-        let Some(score) = score(record, task, column, bottom) else {
-            return;
-        };
-        let is_better =
-            best.is_none_or(|best| score.pieces * best.stretch < best.pieces * score.stretch);
-        if is_better {
-            *best = Some(Best {
-                column,
-                bottom,
-                pieces: score.pieces,
-                stretch: score.stretch,
-            });
+/// Where the search for the interval of each block begins in a new column.
+const LOWEST: [u8; MAX_BLOCKS] = [0; MAX_BLOCKS];
+
+impl Choice<'_> {
+    /// A search before its first column.
+    fn of<'a>(record: &'a Record, task: &'a Task) -> Choice<'a> {
+        Choice {
+            record,
+            task,
+            stands: LOWEST,
+            best: None,
         }
-        let steps = (score.room as i32 + step - 1) / step;
-        bottom += step * steps.max(1);
     }
-}
 
-/// The score of a fitting position, block by block.
-fn score(record: &Record, task: &Task, column: usize, bottom: i32) -> Option<Score> {
-    let mut score = Score {
-        pieces: 0,
-        stretch: 0,
-        room: u32::MAX,
-    };
-    let mut previous: Option<(usize, Interval)> = None;
-    for block in task.blocks() {
-        let bottom = (bottom + block.bottom()) as u32;
-        let top = bottom + block.size();
-        let here = column + block.column();
-        // Blocks of one interval follow each other, from the lowest up: the next one is in the same
-        // interval if it ends there.
-        let shared = previous.filter(|&(column, home)| column == here && top <= home.top);
-        let holder = match shared {
-            Some((_, holder)) => holder,
-            None => {
-                // The first of them counts the height, and the piece below: between two blocks it
-                // is the piece above the lower one.
-                let holder = home(record, here, bottom, top)?;
-                score.pieces += u32::from(holder.bottom < bottom);
-                score.stretch += holder.top - holder.bottom;
-                holder
+    /// Looks at a range from its first bottom up, and passes over those that cannot be better.
+    ///
+    /// While every block stays in its interval, the stretch stays and the pieces are least at the
+    /// lowest or at the highest bottom, where a block touches an end of its interval.
+    fn climb(&mut self, column: usize, range: Range, step: i32) {
+        let mut bottom = range.first;
+        while bottom <= range.last {
+            // Every bottom of a range fits, so a score is always there.
+            let Some(score) = self.score(column, bottom) else {
+                return;
+            };
+            let is_better = self
+                .best
+                .is_none_or(|best| score.pieces * best.stretch < best.pieces * score.stretch);
+            if is_better {
+                self.best = Some(Best {
+                    column,
+                    bottom,
+                    pieces: score.pieces,
+                    stretch: score.stretch,
+                });
             }
-        };
-        score.pieces += u32::from(top < holder.top);
-        score.room = score.room.min(holder.top - top);
-        previous = Some((here, holder));
+            let steps = (score.room as i32 + step - 1) / step;
+            bottom += step * steps.max(1);
+        }
     }
-    Some(score)
+
+    /// The score of a fitting position, block by block.
+    fn score(&mut self, column: usize, bottom: i32) -> Option<Score> {
+        let mut score = Score {
+            pieces: 0,
+            stretch: 0,
+            room: u32::MAX,
+        };
+        let mut previous: Option<(usize, Interval)> = None;
+        for (block, stand) in self.task.blocks().iter().zip(&mut self.stands) {
+            let bottom = (bottom + block.bottom()) as u32;
+            let top = bottom + block.size();
+            let here = column + block.column();
+            // Blocks of one interval follow each other, from the lowest up: the next one is in the same
+            // interval if it ends there.
+            let shared = previous.filter(|&(column, home)| column == here && top <= home.top);
+            let holder = match shared {
+                Some((_, holder)) => holder,
+                None => {
+                    // The first of them counts the height, and the piece below: between two blocks it
+                    // is the piece above the lower one.
+                    let hint = usize::from(*stand);
+                    let (number, holder) = home(self.record, here, hint, bottom, top)?;
+                    *stand = number as u8;
+                    score.pieces += u32::from(holder.bottom < bottom);
+                    score.stretch += holder.top - holder.bottom;
+                    holder
+                }
+            };
+            score.pieces += u32::from(top < holder.top);
+            score.room = score.room.min(holder.top - top);
+            previous = Some((here, holder));
+        }
+        Some(score)
+    }
 }
 
 #[cfg(test)]
 mod tests {
-    use super::score;
+    use super::Choice;
     use crate::calls::{checked, new, place};
     use crate::layout::RECORD_SIZE;
     use crate::task::Task;
@@ -125,7 +146,7 @@ mod tests {
             assert_eq!(place(&mut record, &cell, number, 0, bottom), 0);
         }
         let task = Task::from_bytes(task)?;
-        let score = score(checked(&record).ok()?, &task, 0, bottom)?;
+        let score = Choice::of(checked(&record).ok()?, &task).score(0, bottom)?;
         Some((score.pieces, score.stretch))
     }
 
@@ -136,6 +157,22 @@ mod tests {
         assert_eq!(of(&[0], &[2], &COMB, 0), Some((1, 8)));
         assert_eq!(of(&[0], &[2], &COMB, 4), Some((1, 6)));
         assert_eq!(of(&[0], &[2], &COMB, 2), None);
+    }
+
+    #[test]
+    fn a_score_is_the_same_whichever_was_looked_at_before_it() {
+        let mut record = vec![0; RECORD_SIZE];
+        assert_eq!(new(&mut record, 5, &[0]), 0);
+        let cell = [0, 0, 0, 0, 2, 0];
+        assert_eq!(place(&mut record, &cell, 1, 0, 4), 0);
+        let task = Task::from_bytes(&cell).expect("one cell");
+        let record = checked(&record).expect("a record of calls");
+        let mut choice = Choice::of(record, &task);
+        // Free are 0–4 and 6–10. Upwards the block's interval is found from the last one on, and downwards from the lowest.
+        for (bottom, stretch, stand) in [(0, 4, 0), (6, 4, 1), (8, 4, 1), (2, 4, 0)] {
+            let score = choice.score(0, bottom).expect("it fits");
+            assert_eq!((score.stretch, choice.stands[0]), (stretch, stand));
+        }
     }
 
     #[test]

@@ -14,16 +14,19 @@ pub struct Interval {
     pub top: u32,
 }
 
+/// The interval of four bytes.
+fn interval(bytes: &[u8; INTERVAL_SIZE]) -> Interval {
+    // One load for both numbers.
+    let both = u32::from_le_bytes(*bytes);
+    Interval {
+        bottom: both & 0xFFFF,
+        top: both >> 16,
+    }
+}
+
 /// The first intervals of a part, upwards.
 pub fn intervals(part: &Part, count: usize) -> impl Iterator<Item = Interval> + '_ {
-    part.chunks_exact(INTERVAL_SIZE).take(count).map(|bytes| {
-        // One load for both numbers.
-        let both = u32::from_le_bytes([bytes[0], bytes[1], bytes[2], bytes[3]]);
-        Interval {
-            bottom: both & 0xFFFF,
-            top: both >> 16,
-        }
-    })
+    part.as_chunks().0.iter().take(count).map(interval)
 }
 
 /// A new list of intervals, as one number for each.
@@ -101,11 +104,31 @@ pub fn join(part: &mut Part, count: usize, bottom: u32, top: u32) -> usize {
     stream.copy_to(part)
 }
 
-/// The interval that holds all half rows from bottom to top, if one does.
-pub fn holder(part: &Part, count: usize, bottom: u32, top: u32) -> Option<Interval> {
-    // Intervals rise, so only the first that reaches up to the top can hold them.
-    let reaching = intervals(part, count).find(|interval| top <= interval.top)?;
-    (reaching.bottom <= bottom).then_some(reaching)
+/// Where a search for half rows from bottom up begins: at the hinted interval if that begins no higher, else at the lowest.
+fn begin(list: &[[u8; INTERVAL_SIZE]], hint: usize, bottom: u32) -> usize {
+    let is_low = |bytes: &[u8; INTERVAL_SIZE]| interval(bytes).bottom <= bottom;
+    if list.get(hint).is_some_and(is_low) {
+        hint
+    } else {
+        0
+    }
+}
+
+/// The interval that holds all half rows from bottom to top, if one does, and its number; the hint is where it may be.
+pub fn holder(
+    part: &Part,
+    count: usize,
+    hint: usize,
+    bottom: u32,
+    top: u32,
+) -> Option<(usize, Interval)> {
+    let list = part.as_chunks().0.get(..count)?;
+    let start = begin(list, hint, bottom);
+    // Intervals rise, so none but the first that reaches up to the top can hold them.
+    let higher = &list[start..];
+    let steps = higher.iter().position(|bytes| top <= interval(bytes).top)?;
+    let reaching = interval(&higher[steps]);
+    (reaching.bottom <= bottom).then_some((start + steps, reaching))
 }
 
 #[cfg(test)]
@@ -155,11 +178,27 @@ mod tests {
     }
 
     #[test]
-    fn a_holder_holds_all_of_it() {
-        let (part, count) = part_of(&[(0, 4), (6, 20)]);
-        let found = holder(&part, count, 8, 20);
-        assert_eq!(found, Some(Interval { bottom: 6, top: 20 }));
-        assert_eq!(holder(&part, count, 2, 6), None);
-        assert_eq!(holder(&part, count, 18, 22), None);
+    fn a_search_begins_at_the_hint_unless_that_is_too_high() {
+        let (part, count) = part_of(&[(0, 4), (6, 20), (22, 24)]);
+        let list = &part.as_chunks().0[..count];
+        assert_eq!([0, 1, 2].map(|hint| begin(list, hint, 6)), [0, 1, 0]);
+        assert_eq!([0, 1, 2, 3].map(|hint| begin(list, hint, 22)), [0, 1, 2, 0]);
+        assert_eq!(begin(&[], 0, 22), 0);
+    }
+
+    #[test]
+    fn a_holder_holds_all_of_it_whatever_the_hint() {
+        let (part, count) = part_of(&[(0, 4), (6, 20), (22, 24)]);
+        let (lowest, middle) = (
+            Interval { bottom: 0, top: 4 },
+            Interval { bottom: 6, top: 20 },
+        );
+        for hint in 0..5 {
+            assert_eq!(holder(&part, count, hint, 8, 20), Some((1, middle)));
+            assert_eq!(holder(&part, count, hint, 0, 2), Some((0, lowest)));
+            assert_eq!(holder(&part, count, hint, 2, 6), None);
+            assert_eq!(holder(&part, count, hint, 18, 22), None);
+            assert_eq!(holder(&part, count, hint, 22, 26), None);
+        }
     }
 }

@@ -8,6 +8,8 @@ pub const MAX_ROWS: u32 = 128;
 pub const MAX_COLUMNS: usize = 64;
 /// The highest kind byte.
 pub const MAX_KIND: u8 = 2;
+/// How many kinds there are.
+pub const KINDS: usize = MAX_KIND as usize + 1;
 /// The most blocks of a task.
 pub const MAX_BLOCKS: usize = 32;
 /// The most running tasks.
@@ -35,8 +37,10 @@ pub const COUNTS_AT: usize = 68;
 pub const INTERVALS_AT: usize = 132;
 /// The bytes of one column's intervals.
 pub const COLUMN_SIZE: usize = 256;
+/// The bytes of a two-byte number.
+pub const WORD_SIZE: usize = 2;
 /// The bytes of one interval.
-pub const INTERVAL_SIZE: usize = 4;
+pub const INTERVAL_SIZE: usize = 2 * WORD_SIZE;
 /// Where the top stands in an interval; the bottom stands first.
 pub const INTERVAL_TOP_AT: usize = 2;
 /// Where the running entries start.
@@ -79,10 +83,28 @@ pub fn height(kind: u8) -> u32 {
     }
 }
 
+/// The cell of a column in which a half row lies.
+pub fn cell(kind: u8, half_row: u32) -> u32 {
+    // A division by a constant is a multiplication.
+    match kind {
+        0 => half_row / 2,
+        _ => half_row / 5,
+    }
+}
+
+/// Whether so many half rows are whole cells of a kind.
+pub fn is_whole(kind: u8, half_rows: u32) -> bool {
+    height(kind) * cell(kind, half_rows) == half_rows
+}
+
+/// How many whole cells a column has.
+pub fn cells(kind: u8, rows: u32) -> u32 {
+    cell(kind, 2 * rows)
+}
+
 /// The top of the last whole cell of a column.
 pub fn top(kind: u8, rows: u32) -> u32 {
-    let half_rows = 2 * rows;
-    half_rows - half_rows % height(kind)
+    height(kind) * cells(kind, rows)
 }
 
 /// The little-endian two-byte number at a place.

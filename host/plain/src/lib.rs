@@ -1,11 +1,13 @@
 //! The calls of the model (`docs/MODEL.md`) in plain Rust, **unverified**.
 //!
 //! It has the algorithms and the checks of the proved library, written as an
-//! engineer writes them who need not prove anything. Its use is to measure the
+//! engineer writes them who need not prove anything. Its check takes the shorter
+//! way: it reads each block once, and compares the ends of a column's free runs
+//! with the record in place. Its use is to measure the
 //! proved library against it, and to try out the tests and the benchmark.
 //!
 //! Where to find what: [`layout`] the constants, [`column`](mod@column) intervals cut and
-//! joined, [`task`](mod@task) blocks, [`record`] the record and its check,
+//! joined, [`task`](mod@task) blocks, [`record`] the record, [`cells`] and [`sound`] its check,
 //! [`listing`] and [`choice`] the searches, [`fragments`] the connected sets of free cells,
 //! [`calls`] the calls themselves.
 
@@ -13,12 +15,14 @@
 #![forbid(unsafe_code)]
 
 pub mod calls;
+pub mod cells;
 pub mod choice;
 pub mod column;
 pub mod fragments;
 pub mod layout;
 pub mod listing;
 pub mod record;
+pub mod sound;
 pub mod task;
 
 pub use calls::{choose, fragmentation, interval_count, list, new, place, release, view};

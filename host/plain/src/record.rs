@@ -1,4 +1,4 @@
-//! The record as a whole: an empty one, entering and leaving, and whether one is sound.
+//! The record as a whole: its parts, an empty one, entering and leaving.
 
 use crate::column::{cut, holder, intervals, join, Interval, Part};
 use crate::layout::*;
@@ -35,9 +35,16 @@ pub fn column_intervals(record: &Record, column: usize) -> impl Iterator<Item = 
     intervals(part(record, column), count(record, column))
 }
 
-/// The interval of a column that holds all half rows from bottom to top.
-pub fn home(record: &Record, column: usize, bottom: u32, top: u32) -> Option<Interval> {
-    holder(part(record, column), count(record, column), bottom, top)
+/// The interval of a column that holds all half rows from bottom to top, and its number; the hint is where it may be.
+pub fn home(
+    record: &Record,
+    column: usize,
+    hint: usize,
+    bottom: u32,
+    top: u32,
+) -> Option<(usize, Interval)> {
+    let (part, count) = (part(record, column), count(record, column));
+    holder(part, count, hint, bottom, top)
 }
 
 /// Changes a column's intervals by a routine that answers their new count.
@@ -88,8 +95,15 @@ pub fn fits(record: &Record, task: &Task, column: u32, bottom: i32) -> bool {
         && task.blocks().iter().all(|block| {
             let (bottom, top) = (bottom + block.bottom(), bottom + block.top());
             bottom >= 0
-                && (bottom as u32).is_multiple_of(height(block.kind()))
-                && home(record, column + block.column(), bottom as u32, top as u32).is_some()
+                && is_whole(block.kind(), bottom as u32)
+                && home(
+                    record,
+                    column + block.column(),
+                    0,
+                    bottom as u32,
+                    top as u32,
+                )
+                .is_some()
         })
 }
 
@@ -162,48 +176,4 @@ pub fn leave(record: &mut Record, index: usize) {
     record.copy_within(later, entry_part(index).start);
     record[entry_part(last)].fill(0);
     record[RUNNING_AT] -= 1;
-}
-
-/// Whether a record is sound: it equals one that is built anew from its device and tasks.
-pub fn is_sound(record: &Record) -> bool {
-    let rows = word(record, ROWS_AT);
-    if columns(record) > MAX_COLUMNS || running(record) > MAX_RUNNING {
-        return false;
-    }
-    let kinds = &record[KINDS_AT..KINDS_AT + columns(record)];
-    if !device_ok(rows, kinds) {
-        return false;
-    }
-    let mut scratch = [0; RECORD_SIZE];
-    write_device(&mut scratch, rows, kinds);
-    enter_all(record, &mut scratch) && scratch == *record
-}
-
-/// Enters the running tasks of a record into an empty one; answers whether each may be there.
-fn enter_all(record: &Record, scratch: &mut Record) -> bool {
-    let mut previous = 0;
-    for index in 0..running(record) {
-        let part = &record[entry_part(index)];
-        let number = word(part, ENTRY_NUMBER_AT);
-        let blocks = usize::from(part[ENTRY_COUNT_AT]);
-        if number <= previous || !(1..=MAX_BLOCKS).contains(&blocks) {
-            return false;
-        }
-        previous = number;
-        let bytes = &part[BLOCKS_AT..BLOCKS_AT + BLOCK_SIZE * blocks];
-        let Some(task) = Task::from_bytes(bytes) else {
-            return false;
-        };
-        let (column, bottom) = (part[ENTRY_COLUMN_AT], word(part, ENTRY_BOTTOM_AT));
-        if !fits(scratch, &task, u32::from(column), bottom as i32) {
-            return false;
-        }
-        let entry = Entry {
-            number,
-            column: usize::from(column),
-            bottom,
-        };
-        enter(scratch, index, entry, &task, bytes);
-    }
-    true
 }

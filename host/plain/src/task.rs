@@ -1,6 +1,6 @@
 //! A task's blocks, read once from its bytes, with all that makes it well-formed tested on the way.
 
-use crate::layout::{height, BLOCK_SIZE, MAX_BLOCKS, MAX_COLUMNS, MAX_KIND, REACH};
+use crate::layout::{is_whole, BLOCK_SIZE, MAX_BLOCKS, MAX_COLUMNS, MAX_KIND, REACH};
 
 /// A block; its bottom and top count from where the task's first block begins.
 ///
@@ -34,7 +34,8 @@ impl Block {
         top: 0,
     };
 
-    fn from_bytes(bytes: &[u8]) -> Block {
+    /// The block of six bytes.
+    pub fn from_bytes(bytes: &[u8]) -> Block {
         Block {
             column: bytes[0],
             kind: bytes[1],
@@ -76,7 +77,7 @@ fn block_ok(block: &Block) -> bool {
         && block.bottom() >= -REACH
         && block.top() <= REACH
         && block.bottom < block.top
-        && block.size().is_multiple_of(height(block.kind))
+        && is_whole(block.kind, block.size())
 }
 
 /// What well-formedness asks of two blocks in a row.
@@ -87,6 +88,27 @@ fn follows(previous: &Block, block: &Block) -> bool {
             && block.bottom > previous.top)
 }
 
+/// Goes through the blocks of a task, and says of each whether a well-formed task goes on with it.
+pub struct Order {
+    previous: Option<Block>,
+}
+
+impl Order {
+    /// Before the first block.
+    pub const START: Order = Order { previous: None };
+
+    /// Whether a well-formed task may have the block next.
+    #[inline]
+    pub fn goes_on(&mut self, block: &Block) -> bool {
+        let is_next = match self.previous {
+            None => block.column == 0 && block.bottom == 0,
+            Some(previous) => follows(&previous, block),
+        };
+        self.previous = Some(*block);
+        is_next && block_ok(block)
+    }
+}
+
 impl Task {
     /// Reads bytes of a good length; none where the task is not well-formed.
     pub fn from_bytes(bytes: &[u8]) -> Option<Task> {
@@ -94,18 +116,12 @@ impl Task {
             blocks: [Block::ZERO; MAX_BLOCKS],
             count: bytes.len() / BLOCK_SIZE,
         };
-        let mut previous: Option<Block> = None;
+        let mut order = Order::START;
         for (place, bytes) in task.blocks.iter_mut().zip(bytes.chunks_exact(BLOCK_SIZE)) {
-            let block = Block::from_bytes(bytes);
-            let is_next = match previous {
-                None => block.column == 0 && block.bottom == 0,
-                Some(previous) => follows(&previous, &block),
-            };
-            if !is_next || !block_ok(&block) {
+            *place = Block::from_bytes(bytes);
+            if !order.goes_on(place) {
                 return None;
             }
-            *place = block;
-            previous = Some(block);
         }
         Some(task)
     }

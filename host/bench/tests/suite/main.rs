@@ -1,76 +1,28 @@
 //! Loads, rounds, stored runs, summaries and the document, on written data: nothing is timed here.
 
+mod before;
+mod pictures;
+mod samples;
+
 use std::cell::RefCell;
 use std::fs;
 use std::path::Path;
 
 use bench::clock::processor_time;
 use bench::document::{fill, filled, filled_readme};
+use bench::growth::SERIES;
 use bench::machine::processor_of;
 use bench::measure::{median, quartiles, take_turns, Named, Samples};
 use bench::names::{CALL_RATIOS, PLAIN, PROVED};
 use bench::rows::Row;
-use bench::run::{figures, store, stored, About, Figure, Key, Run};
-use bench::summary::{Spread, Summary};
-use bench::targets::{CHECK, CHOICE, FLOOD, SLOWNESS, TARGETS};
+use bench::run::{figures, store, stored, Run};
+use bench::summary::{Spread, Stored, Summary};
+use bench::targets::{Place, Target, CHECK, CHOICE, FLOOD, SEARCH, SLOWNESS, TARGETS};
 use bench::{loads, plot, table};
 use calls::{Calls, SUBJECTS};
+use oracle::layout::{entry_part, RUNNING_AT};
 
-/// A figure whose quartiles are one number.
-fn figure(part: &str, load: &str, call: &str, name: &str, value: f64) -> Figure {
-    Figure {
-        key: Key {
-            part: part.into(),
-            load: load.into(),
-            call: call.into(),
-            name: name.into(),
-        },
-        quartiles: [value; 3],
-    }
-}
-
-/// A small run, whose slowest call on the empty card takes so many times as long as plain.
-fn sample(slowest: f64) -> Run {
-    let (empty, busy) = ("empty, 128 rows", "20 tasks of 5 blocks");
-    let mut figures = Vec::new();
-    for (load, check) in [(empty, 2.0), (busy, 9.0)] {
-        let count = "interval count";
-        figures.push(figure("calls", load, count, "proved ns", 1000.0));
-        figures.push(figure("calls", load, count, "proved / plain", 0.5));
-        figures.push(figure("calls", load, count, "proved / memcmp", check));
-        let choose = "choose, 5 blocks";
-        figures.push(figure("calls", load, choose, "proved / plain", slowest));
-        figures.push(figure("calls", load, choose, "matrix / proved", 40.0));
-        let list = "list, 5 blocks";
-        figures.push(figure("searches", load, list, "proved / matrix", 0.0125));
-    }
-    // A load on which calls with a task are not measured.
-    for (call, name, value) in [
-        ("interval count", "proved / memcmp", 160.0),
-        ("fragmentation", "proved / plain", 0.9),
-        ("fragmentation", "matrix / proved", 0.5 * slowest),
-    ] {
-        figures.push(figure("calls", "stripes", call, name, value));
-    }
-    for series in ["tasks", "blocks", "rows"] {
-        for (amount, ns) in [("8", 1500.0), ("16", 3000.0)] {
-            figures.push(figure(series, amount, "list", "proved ns", ns));
-            figures.push(figure(series, amount, "list", "matrix ns", 100.0 * ns));
-            figures.push(figure(series, amount, "list", "memcmp ns", 500.0));
-        }
-    }
-    let about = ["compiler", "kit", "processor", "rounds"];
-    let about = about.map(|name| (name.to_string(), format!("the {name}")));
-    Run {
-        about: About::from(about),
-        figures,
-    }
-}
-
-/// Four runs, in one of which plain was not kept up with.
-fn summary() -> Summary {
-    Summary::of([1.5, 2.5, 1.0, 2.0].map(sample).into()).expect("runs of one kind")
-}
+use samples::{sample, summary};
 
 #[test]
 fn the_clock_never_goes_back() {
@@ -183,45 +135,92 @@ fn runs_that_are_few_or_of_other_kinds_are_refused() {
     assert_eq!(fault, Err("run 2 has other figures than run 1".into()));
 }
 
+/// The target whose words have these in them.
+fn target(words: &str) -> Target {
+    let found = TARGETS
+        .into_iter()
+        .find(|target| target.words.contains(words));
+    found.expect("a target of these words")
+}
+
 #[test]
 fn targets_are_judged_in_each_run_by_the_worst_call() {
-    let (summary, load) = (summary(), "empty, 128 rows");
+    let (summary, load) = (summary(), Place::Load("empty, 128 rows"));
     assert_eq!(SLOWNESS.worst(&summary, load), [1.5, 2.5, 1.0, 2.0]);
     assert_eq!(CHOICE.worst(&summary, load), [40.0; 4]);
     assert_eq!(CHECK.worst(&summary, load), [2.0; 4]);
-    assert_eq!(FLOOD.worst(&summary, "stripes"), [0.75, 1.25, 0.5, 1.0]);
-    let [slowness, choice, ..] = TARGETS;
+    let stripes = Place::Load("stripes");
+    assert_eq!(FLOOD.worst(&summary, stripes), [0.75, 1.25, 0.5, 1.0]);
+    let slowness = target("each call");
     assert_eq!(
         slowness.verdict(&[1.5, 2.5, 1.0, 2.0]),
         "met in 3 of 4 runs"
     );
     assert_eq!(slowness.verdict(&[2.0, 1.0]), "met in all 2 runs");
+    let choice = target("choose");
     assert_eq!(choice.verdict(&[4.9, 1.0]), "missed in all 2 runs");
     assert_eq!(choice.verdict(&[5.0, 6.0]), "met in all 2 runs");
 }
 
 #[test]
-fn a_target_is_judged_on_the_loads_that_have_its_calls() {
+fn a_series_is_judged_by_its_worst_point() {
     let summary = summary();
-    assert_eq!(
-        CHECK.loads(&summary),
-        ["empty, 128 rows", "20 tasks of 5 blocks", "stripes"]
-    );
-    assert_eq!(
-        CHOICE.loads(&summary),
-        ["empty, 128 rows", "20 tasks of 5 blocks"]
-    );
-    assert_eq!(FLOOD.loads(&summary), ["stripes"]);
+    for series in &SERIES {
+        let place = Place::Growth(series);
+        // The scan gains least where there is more, and list's own search too.
+        assert_eq!(CHOICE.worst(&summary, place), [5.5, 6.5, 5.0, 6.0]);
+        assert_eq!(SEARCH.worst(&summary, place), [0.3; 4]);
+    }
 }
 
 #[test]
-fn to_take_as_long_as_the_flood_fill_is_not_to_be_faster() {
-    let flood = TARGETS
-        .iter()
-        .find(|target| target.words.contains("faster"));
-    let flood = flood.expect("a target of the flood fill");
+fn a_target_is_judged_wherever_its_calls_are_measured() {
+    let summary = summary();
+    let loads = ["empty, 128 rows", "20 tasks of 5 blocks", "stripes"];
+    // The series have no interval count here.
+    assert_eq!(CHECK.places(&summary), loads.map(Place::Load));
+    assert_eq!(CHECK.loads(&summary), loads);
+    let mut places = vec![Place::Load(loads[0]), Place::Load(loads[1])];
+    assert_eq!(CHOICE.loads(&summary), &loads[..2]);
+    places.extend(SERIES.iter().map(Place::Growth));
+    assert_eq!(CHOICE.places(&summary), places);
+    assert_eq!(SEARCH.places(&summary), places);
+    assert_eq!(FLOOD.places(&summary), [Place::Load("stripes")]);
+    let only = target("at most 2 times as long as memcmp").places(&summary);
+    assert_eq!(only, [Place::Load("empty, 128 rows")]);
+}
+
+#[test]
+fn to_take_as_long_is_not_to_be_faster() {
+    let flood = target("faster than the flood fill");
     assert!(!flood.is_met(1.0));
     assert!(flood.is_met(1.0001));
+    let search = target("search of list is faster than matrix");
+    assert!(!search.is_met(1.0));
+    assert!(search.is_met(0.9999));
+}
+
+#[test]
+fn the_check_is_judged_on_every_load_and_more_strictly_on_two() {
+    let bounds = [
+        (
+            "at most 2 times as long as memcmp",
+            Some("empty, 128 rows"),
+            2.0,
+        ),
+        (
+            "at most 4 times as long as memcmp",
+            Some("20 tasks of 5 blocks"),
+            4.0,
+        ),
+        ("at most 40 times as long as memcmp", None, 40.0),
+        ("at most 1.3 times as long as plain's", None, 1.3),
+    ];
+    for (words, load, bound) in bounds {
+        let target = target(words);
+        assert_eq!((target.load, target.bound), (load, bound), "{words}");
+        assert!(target.is_met(bound) && !target.is_met(bound + 0.01));
+    }
 }
 
 /// Fragmentation of a record by each measured implementation: sets, free cells and degree.
@@ -255,12 +254,44 @@ fn all_that_is_measured_finds_the_loads_broken_up_alike() {
     }
     let others = [
         loads::busy(subject, 20),
+        loads::busy(subject, 60),
         loads::combs(subject, 8),
         loads::combs(subject, 32),
+        loads::rakes(subject),
     ];
     for load in others {
         let all = fragmentation_by_all(&load.record);
         assert_eq!(all, [all[0]; 3], "{}", load.name);
+    }
+}
+
+#[test]
+fn loads_have_the_tasks_and_blocks_that_they_are_named_after() {
+    let subject = SUBJECTS[0];
+    for (load, name, tasks, blocks) in [
+        (loads::busy(subject, 60), "60 tasks of 5 blocks", 60, 5),
+        (loads::combs(subject, 32), "63 combs of 32 blocks", 63, 32),
+        (loads::rakes(subject), "63 rakes of 32 blocks", 63, 32),
+    ] {
+        assert_eq!(load.name, name);
+        assert_eq!(load.record[RUNNING_AT], tasks);
+        for entry in 0..usize::from(tasks) {
+            // The number of blocks, and the columns of the first and the last one.
+            let entry = &load.record[entry_part(entry)];
+            assert_eq!(entry[3], blocks);
+            let last = 6 * usize::from(blocks);
+            assert_eq!(entry[6], 0);
+            let is_wide = entry[last] >= 31;
+            assert_eq!(is_wide, name.contains("rakes"));
+        }
+    }
+}
+
+#[test]
+fn records_begin_where_a_cache_line_does() {
+    let load = loads::empty(SUBJECTS[0], 128);
+    for record in [&load.record, &load.record.clone()] {
+        assert_eq!(record.as_ptr() as usize % 64, 0);
     }
 }
 
@@ -278,9 +309,17 @@ fn tables_have_the_figures_of_all_runs() {
     let targets = table::targets(&summary);
     let row = "| 20 tasks of 5 blocks | 9.00 (9.00 to 9.00) | missed in all 4 runs |\n";
     assert!(targets.contains(row), "{targets}");
-    let growth = table::growth(&summary, "rows");
+    let row = "| growth: rows | 5.75 (5.00 to 6.50) | met in all 4 runs |\n";
+    assert!(targets.contains(row), "{targets}");
+    let [_, _, rows, teeth] = &SERIES;
+    let growth = table::growth(&summary, rows);
     assert!(
         growth.contains("| 16 | – | – | – | 3000 | – | – | 300000 | – |\n"),
+        "{growth}"
+    );
+    let growth = table::growth(&summary, teeth);
+    assert!(
+        growth.contains("| 16 | – | – | – | – | – | 3000 | – | – | – | – | 300000 | – |\n"),
         "{growth}"
     );
     let row = "| stripes | 0.88 (0.50 to 1.25) | met in 1 of 4 runs |\n";
@@ -294,14 +333,6 @@ fn tables_have_the_figures_of_all_runs() {
         top.contains(": 2.50 (empty, 128 rows); 2.50 (20 tasks of 5 blocks); 0.90 (stripes).\n"),
         "{top}"
     );
-}
-
-#[test]
-fn a_plot_has_a_line_for_each_call_and_implementation() {
-    let svg = plot::svg(&summary());
-    assert_eq!(svg.matches("<polyline").count(), 6);
-    assert_eq!(svg.matches("stroke-dasharray").count(), 3);
-    assert_eq!(svg.matches("list (matrix)").count(), 1);
 }
 
 #[test]
@@ -327,17 +358,16 @@ fn the_processor_is_named_by_the_systems_text() {
 #[test]
 fn the_document_and_the_plot_are_those_of_the_stored_runs() {
     let docs = Path::new(env!("CARGO_MANIFEST_DIR")).join("../../docs");
-    let runs = stored(&docs.join("performance")).expect("stored runs");
-    let summary = Summary::of(runs).expect("runs of one kind");
+    let stored = Stored::read(&docs.join("performance")).expect("stored runs");
     let text = fs::read_to_string(docs.join("PERFORMANCE.md")).expect("the document");
-    let is_same = filled(&text, &summary).as_deref() == Ok(&text);
+    let is_same = filled(&text, &stored).as_deref() == Ok(&text);
     assert!(is_same, "`bench document` makes the document anew");
     let text = fs::read_to_string(docs.join("../README.md")).expect("the README");
-    let is_same = filled_readme(&text, &summary).as_deref() == Ok(&text);
+    let is_same = filled_readme(&text, &stored.now).as_deref() == Ok(&text);
     assert!(is_same, "`bench document` makes its lines on speed anew");
     let svg = fs::read_to_string(docs.join("performance/growth.svg")).expect("the plot");
     assert!(
-        svg == plot::svg(&summary),
+        svg == plot::svg(&stored.now),
         "`bench document` makes the plot anew"
     );
 }
