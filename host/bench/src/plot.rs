@@ -1,6 +1,7 @@
 //! The plot of growth as SVG: a panel for each series, a colour for each call, a stroke for each implementation.
 //!
-//! Times stand at a logarithmic axis, from the least to the greatest of a panel. The plot has a background of its own.
+//! Times stand at a logarithmic axis, in ns as in the tables, from the least to the greatest of a panel. The plot has a
+//! background of its own.
 
 use std::ops::RangeInclusive;
 
@@ -9,21 +10,25 @@ use crate::names::{MATRIX, PLAIN, PROVED};
 use crate::summary::Summary;
 
 /// The size of a panel's inside.
-const WIDTH: f64 = 400.0;
-const HEIGHT: f64 = 300.0;
+const WIDTH: f64 = 380.0;
+const HEIGHT: f64 = 360.0;
 /// What is around it: on its left the times, above it what stays the same, below it the amounts.
-const LEFT: f64 = 76.0;
-const ABOVE: f64 = 34.0;
-const BELOW: f64 = 50.0;
+const LEFT: f64 = 94.0;
+const ABOVE: f64 = 44.0;
+const BELOW: f64 = 56.0;
 /// What is free at the right of a panel.
 const RIGHT: f64 = 16.0;
 /// The legend above the panels.
-const LEGEND: f64 = 64.0;
+const LEGEND: f64 = 68.0;
 /// How many panels stand side by side.
 const ACROSS: usize = 2;
 /// How far the amounts at an axis are apart at least.
-const APART: f64 = 20.0;
+const APART: f64 = 23.0;
+/// The size of the letters: a page shows the plot smaller than it is.
+const LETTERS: f64 = 14.0;
 
+/// What stands over the times.
+const UNIT: &str = "ns, logarithmic";
 /// What the plot shows, for those who cannot see it.
 const TITLE: &str = "Times of the calls over what grows";
 
@@ -40,22 +45,23 @@ const CALLS: [(&str, &str); 5] = [
     ("choose", "#d55e00"),
 ];
 
-/// The implementations, each with what it is called and its stroke.
+/// The implementations, each with what it is called and its stroke: solid, dotted and dashed. The dots are wider than
+/// the solid line, so that they are seen on it where both take as long.
 const STROKES: [(&str, &str, &str); 3] = [
     (
         PROVED,
         "proved library",
-        "stroke-width=\"1.8\" stroke-dasharray=\"none\"",
+        "stroke-width=\"2\" stroke-dasharray=\"none\"",
     ),
     (
         PLAIN,
         "plain Rust",
-        "stroke-width=\"2\" stroke-linecap=\"round\" stroke-dasharray=\"0.1 4\"",
+        "stroke-width=\"3.4\" stroke-linecap=\"round\" stroke-dasharray=\"0.1 7\"",
     ),
     (
         MATRIX,
         "cell matrix",
-        "stroke-width=\"1.5\" stroke-dasharray=\"7 4\"",
+        "stroke-width=\"1.6\" stroke-dasharray=\"8 4\"",
     ),
 ];
 
@@ -65,13 +71,17 @@ fn ticks() -> impl Iterator<Item = f64> {
     powers.flat_map(|power| [power, 2.0 * power, 5.0 * power])
 }
 
-/// A time in words; it is a whole number of its unit.
+/// A time at the axis, a comma between each three of its digits.
 fn time(ns: f64) -> String {
-    match ns {
-        ns if ns < 1e3 => format!("{ns:.0} ns"),
-        ns if ns < 1e6 => format!("{:.0} µs", ns / 1e3),
-        _ => format!("{:.0} ms", ns / 1e6),
+    let digits = format!("{ns:.0}");
+    let mut words = String::new();
+    for (index, digit) in digits.chars().enumerate() {
+        if index > 0 && (digits.len() - index) % 3 == 0 {
+            words.push(',');
+        }
+        words.push(digit);
     }
+    words
 }
 
 /// A text at a place; the anchor says which of its points stands there.
@@ -99,13 +109,13 @@ struct Panel<'a> {
     corner: (f64, f64),
 }
 
-/// The curves of a series, in the order of the calls; the proved library is drawn last, over the others.
+/// The curves of a series, in the order of the calls; the dots of plain are drawn over the proved library's line.
 fn curves(summary: &Summary, series: &Series) -> Vec<Curve> {
     let all = points(summary, series);
     let mut curves = Vec::new();
     for (call, colour) in CALLS {
         let with_task = series.drawn.map(|task| format!("{call}, {task}"));
-        for (implementation, _, stroke) in STROKES.into_iter().rev() {
+        for (implementation, _, stroke) in STROKES {
             let is_of = |point: &&Point| {
                 let is_call = point.call == call || Some(&point.call) == with_task.as_ref();
                 is_call && point.implementation == implementation
@@ -158,7 +168,7 @@ impl Panel<'_> {
         let tick = |tick: f64| {
             let y = self.y(range, tick);
             let stroke = format!("stroke=\"{PALE}\"");
-            line((left, y), (right, y), &stroke) + &text(left - 8.0, y + 4.0, "end", &time(tick))
+            line((left, y), (right, y), &stroke) + &text(left - 8.0, y + 5.0, "end", &time(tick))
         };
         let seen = ticks().filter(|tick| range.contains(tick));
         seen.map(tick).collect()
@@ -175,9 +185,9 @@ impl Panel<'_> {
         for amount in amounts {
             let x = self.x(amount);
             let stroke = format!("stroke=\"{INK}\"");
-            svg += &line((x, base), (x, base + 4.0), &stroke);
+            svg += &line((x, base), (x, base + 5.0), &stroke);
             if x >= free_from {
-                svg += &text(x, base + 18.0, "middle", &amount.to_string());
+                svg += &text(x, base + 20.0, "middle", &amount.to_string());
                 free_from = x + APART;
             }
         }
@@ -191,11 +201,11 @@ impl Panel<'_> {
         let frame = format!(
             "<rect x=\"{x:.1}\" y=\"{y:.1}\" width=\"{WIDTH}\" height=\"{HEIGHT}\" fill=\"none\" stroke=\"{INK}\"/>\n"
         );
-        let axis = text(middle, y + HEIGHT + 36.0, "middle", self.series.axis);
+        let axis = text(middle, y + HEIGHT + 42.0, "middle", self.series.axis);
         frame
             + &format!("<g font-weight=\"bold\">{axis}</g>\n")
             + &text(middle, y - 14.0, "middle", self.series.beside)
-            + &text(x - LEFT + 8.0, y - 14.0, "start", "time of a call, log")
+            + &text(x - LEFT + 8.0, y - 14.0, "start", UNIT)
     }
 
     /// A curve.
@@ -225,27 +235,27 @@ impl Panel<'_> {
 
 /// A short line and what it stands for.
 fn key(x: f64, y: f64, look: &str, words: &str) -> String {
-    line((x, y), (x + 34.0, y), look) + &text(x + 42.0, y + 4.0, "start", words)
+    line((x, y), (x + 40.0, y), look) + &text(x + 48.0, y + 5.0, "start", words)
 }
 
 /// What the colours and the strokes stand for.
 fn legend() -> String {
-    let step = 150.0;
+    let step = 168.0;
     let place = |index: usize| LEFT + step * index as f64;
     let calls = CALLS
         .into_iter()
         .enumerate()
         .map(|(index, (call, colour))| {
             let look = format!("stroke=\"{colour}\" stroke-width=\"4\"");
-            key(place(index), 20.0, &look, call)
+            key(place(index), 21.0, &look, call)
         });
     let strokes = STROKES.into_iter().enumerate();
     let strokes = strokes.map(|(index, (_, words, stroke))| {
         let look = format!("stroke=\"{INK}\" {stroke}");
-        key(place(index), 44.0, &look, words)
+        key(place(index), 47.0, &look, words)
     });
     let keys: String = calls.chain(strokes).collect();
-    text(8.0, 24.0, "start", "call") + &text(8.0, 48.0, "start", "made by") + &keys
+    text(8.0, 26.0, "start", "call") + &text(8.0, 52.0, "start", "made by") + &keys
 }
 
 /// The whole plot, of the medians over the runs.
@@ -255,7 +265,7 @@ pub fn svg(summary: &Summary) -> String {
     let height = LEGEND + SERIES.len().div_ceil(ACROSS) as f64 * down;
     let mut svg = format!(
         "<svg xmlns=\"http://www.w3.org/2000/svg\" width=\"{width}\" height=\"{height}\" viewBox=\"0 0 {width} {height}\" \
-         font-family=\"sans-serif\" font-size=\"12\" fill=\"{INK}\">\n\
+         font-family=\"sans-serif\" font-size=\"{LETTERS}\" fill=\"{INK}\">\n\
          <title>{TITLE}</title>\n\
          <rect width=\"100%\" height=\"100%\" fill=\"{PAPER}\"/>\n"
     );
