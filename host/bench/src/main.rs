@@ -5,7 +5,7 @@
 //!     bench document FOLDER
 //!         makes the tables of FOLDER/PERFORMANCE.md, the plot and the README's lines on speed from all stored runs
 //!
-//! A run takes about a minute and a half, and is made with `--release`. `--quick` makes fewer rounds, for a try. With
+//! A run takes about two minutes, and is made with `--release`. `--quick` makes fewer rounds, for a try. With
 //! `--before` it is a run of the library before a change, and is stored in FOLDER/performance/before.
 
 #![deny(missing_docs)]
