@@ -19,7 +19,7 @@ use listing::columns::{Room, column_ranges};
 use record::checked::SoundRecord;
 use runs::Range;
 pub use score::{Choice, Score};
-pub use tally::{Rating, score_at};
+pub use tally::{Homes, Rating, score_at};
 use task::{Position, Task};
 
 // A task whose best position on a record is looked for.
@@ -43,7 +43,13 @@ fn rise(room: u32, step: u32) -> u32
 impl Search<'_> {
     // The better of the best so far and the bottoms of a range.
     #[tactic(auto, using(crate::specs::Laws::Climbs::range_step, crate::specs::Laws::Climbs::rise_pos, crate::specs::Laws::Climbs::bottom_small))]
-    fn climb_range(self, column: usize, range: Range, mut best: Option<Choice>) -> Option<Choice>
+    fn climb_range(
+        self,
+        column: usize,
+        range: Range,
+        homes: &mut Homes,
+        mut best: Option<Choice>,
+    ) -> Option<Choice>
         requires { FitsRange (device_of self.record.bytes.now) (book_of self.record.bytes.now) self.task.bytes.now column range }
         ensures { Climbed (judge (device_of self.entry.record.bytes.now) (book_of self.entry.record.bytes.now) self.entry.task.bytes.now) column range.first (suc range.last) best result }
     {
@@ -51,7 +57,7 @@ impl Search<'_> {
         let mut bottom = range.first;
         while bottom <= range.last {
             let position = Position { column, bottom };
-            let rating = score_at(self.record, self.task, position);
+            let rating = score_at(self.record, self.task, position, homes);
             let choice = Choice {
                 position,
                 score: rating.score,
@@ -68,6 +74,7 @@ impl Search<'_> {
         self,
         column: usize,
         room: &mut Room,
+        homes: &mut Homes,
         mut best: Option<Choice>,
     ) -> Option<Choice>
         requires { column < max_columns }
@@ -75,7 +82,7 @@ impl Search<'_> {
     {
         let ranges = column_ranges(self.record, self.task, column, room);
         for run in ranges {
-            best = self.climb_range(column, run.in_steps(self.step), best);
+            best = self.climb_range(column, run.in_steps(self.step), homes, best);
         }
         best
     }
@@ -92,10 +99,11 @@ pub fn best_position(record: SoundRecord, task: Task) -> Option<Choice>
         step: task.step(),
     };
     let mut room = Room::new();
+    let mut homes = Homes::new();
     let mut best = None;
     // By the column's number, which is part of a position. A turn writes `room` beside `best`, which a fold would hide in what it captures.
     for column in 0..record.columns() {
-        best = search.climb_column(column, &mut room, best);
+        best = search.climb_column(column, &mut room, &mut homes, best);
     }
     best
 }

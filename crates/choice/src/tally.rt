@@ -1,13 +1,16 @@
 // MODEL 11.1 to 11.3: the score of a position at which a task fits, block by block.
-ghost use Rattle.std.specs.Prelude.{◌≡◌, ◌+◌, ◌*◌, ◌≤◌, true, false};
+ghost use Rattle.std.specs.Prelude.{◌≡◌, ◌+◌, ◌*◌, ◌<◌, ◌≤◌, true, false};
 ghost use Rattle.choice.specs.Bounds.{max_pieces, max_stretch};
+ghost use Rattle.runs.specs.Intervals.{Apart};
 ghost use Rattle.model.specs.Limits.{max_rows};
 ghost use Rattle.model.specs.Book.{fits};
 ghost use Rattle.model.specs.Record.{device_of, book_of};
+ghost use Rattle.column.specs.Part.{listed_in, first_reaching};
 ghost use Rattle.choice.specs.Choosing.{free_in, moved, OnDevice, home_of, Stands, Housed, shared, Alone, Together, Addable, Added, Scored};
 
 use crate::score::Score;
-use column::Interval;
+use column::{Column, Interval};
+use model::MAX_BLOCKS;
 use record::checked::SoundRecord;
 use task::{Extent, Position, Task};
 
@@ -32,6 +35,22 @@ struct Tally {
     last: Place,
 }
 
+// For each block of a task, the number of the interval that was its home last, in whichever column: there the search for its next home begins, while
+// the bottoms rise. These are hints: one is tested before it is used, so any numbers will do.
+#[derive(Drop)]
+pub struct Homes {
+    numbers: [usize; MAX_BLOCKS],
+}
+
+impl Homes {
+    // No block had a home yet, and each search begins at the lowest interval.
+    pub fn new() -> Homes {
+        Homes {
+            numbers: [0; MAX_BLOCKS],
+        }
+    }
+}
+
 impl Place {
     // MODEL 6.1: a block of a task that is placed.
     fn new(block: Extent, at: Position) -> Place
@@ -44,14 +63,33 @@ impl Place {
         }
     }
 
-    // The home of this block, as a search finds it.
-    fn home(self, record: SoundRecord) -> Place
+    // Where the search for this block's home begins in its column: at interval `near`, if that is one and begins at the block's bottom or below it, since
+    // what lies below it then ends below the block; else at the lowest.
+    fn search_start(self, column: Column, near: usize) -> usize
+        requires full { self.rows.bottom < self.rows.top }
+        requires canon { Apart 0 (listed_in column.part.now column.count) }
+        ensures { let L = listed_in column.entry.part.now column.entry.count in first_reaching result self.rows.top L ≡ first_reaching 0 self.rows.top L }
+    {
+        if near < column.count && column.interval(near).bottom <= self.rows.bottom {
+            near
+        } else {
+            0
+        }
+    }
+
+    // The home of this block, as a search finds it. Its number is where the next one for this block begins.
+    fn home(self, record: SoundRecord, near: &mut usize) -> Place
         requires { Stands (free_in «record».bytes.now) self }
         ensures home { result ≡ home_of (free_in «record».entry.bytes.now) self }
         ensures housed { Housed self.rows result.rows }
     {
-        let rows = record.column(self.column).holder(self.rows).unwrap();
-        Place { rows, ..self }
+        let column = record.column(self.column);
+        let number = column.reaching(self.search_start(column, *near), self.rows.top);
+        *near = number;
+        Place {
+            rows: column.interval(number),
+            ..self
+        }
     }
 
     // Is this home that of the next block too? The blocks in it are lower, or in another column.
@@ -114,12 +152,12 @@ impl Rating {
 
 impl Tally {
     // The first block, which is joined to none.
-    fn new(record: SoundRecord, block: Place) -> Tally
+    fn new(record: SoundRecord, block: Place, near: &mut usize) -> Tally
         requires { Stands (free_in «record».bytes.now) block }
         ensures rating { Alone false block.rows (home_of (free_in «record».entry.bytes.now) block).rows result.rating }
         ensures last { result.last ≡ home_of (free_in «record».entry.bytes.now) block }
     {
-        let home = block.home(record);
+        let home = block.home(record, near);
         Tally {
             rating: Rating::first(block.rows, home.rows),
             last: home,
@@ -128,7 +166,7 @@ impl Tally {
 
     // One block more, in the home of the last one or in the one that a search finds.
     #[tactic(auto, using(crate::specs::Laws::Homes::housed))]
-    fn add_block(&mut self, record: SoundRecord, block: Place)
+    fn add_block(&mut self, record: SoundRecord, block: Place, near: &mut usize)
         requires addable { Addable (free_in «record».bytes.now) self.old.rating block }
         requires home_is { shared self.old.last block ≡ true → self.old.last ≡ home_of (free_in «record».bytes.now) block }
         ensures rating { Added self.old.rating (shared self.old.last block) block.rows (home_of (free_in «record».entry.bytes.now) block).rows self.new.rating }
@@ -140,7 +178,7 @@ impl Tally {
         if last.is_shared(block) {
             self.rating = so_far.and(Rating::joined(block.rows, last.rows));
         } else {
-            let home = block.home(record);
+            let home = block.home(record, near);
             self.rating = so_far.and(Rating::first(block.rows, home.rows));
             self.last = home;
         }
@@ -149,14 +187,22 @@ impl Tally {
 
 // MODEL 11.2 and 11.3: the score of a position at which the task fits.
 #[tactic(auto, using(model::proofs::Laws::Tasks::sized_to))]
-pub fn score_at(record: SoundRecord, task: Task, at: Position) -> Rating
+pub fn score_at(record: SoundRecord, task: Task, at: Position, homes: &mut Homes) -> Rating
     requires { fits (device_of «record».bytes.now) (book_of «record».bytes.now) task.bytes.now at.column at.bottom ≡ true }
     ensures { Scored (device_of «record».entry.bytes.now) (book_of «record».entry.bytes.now) task.entry.bytes.now at.column at.bottom result }
 {
-    let mut tally = Tally::new(record, Place::new(task.extent(0), at));
+    let mut tally = Tally::new(
+        record,
+        Place::new(task.extent(0), at),
+        &mut homes.numbers[0],
+    );
     // By the block's number, by which it is read: block 0 has begun the tally.
     for k in 1..task.count() {
-        tally.add_block(record, Place::new(task.extent(k), at));
+        tally.add_block(
+            record,
+            Place::new(task.extent(k), at),
+            &mut homes.numbers[k],
+        );
     }
     tally.rating
 }

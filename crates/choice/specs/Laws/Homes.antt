@@ -1,9 +1,9 @@
 -- MODEL 11.1: where a block of a task that fits stands, and its home, from the bytes of a sound record. Assumes nothing.
 use Prim.Native.Nat.{ℕ, zero, suc, ◌+◌, ◌-◌, ◌≤◌, ◌<◌}
-use Rattle.std.specs.Prelude.{◌≡◌, true, List, Option, Some, eqb}
-use Rattle.std.proofs.Math.Path.{sym, ap₂}
+use Rattle.std.specs.Prelude.{◌≡◌, true, List, eqb}
+use Rattle.std.proofs.Math.Path.{sym, ap, ap₂, ◌∙◌}
 use Rattle.std.proofs.Common.{arith}
-use Rattle.runs.specs.Intervals.{Interval, interval}
+use Rattle.runs.specs.Intervals.{Interval, interval, Apart}
 use Rattle.runs.specs.Laws.Tests.{tests, and_to}
 use Rattle.model.specs.Tasks.{blocks, block}
 use Rattle.model.specs.Book.{Placed, fits, intervals}
@@ -20,10 +20,10 @@ use Rattle.model.proofs.Laws.Sound.{sound_within, listed_said}
 use Rattle.model.proofs.Laws.Homes.{Stands as Free, found}
 use Rattle.model.proofs.Laws.Firsts.{shared_home, joined_top}
 use Rattle.model.proofs.Laws.Ends.{column_free}
-use Rattle.column.specs.Part.{listed_in, held_in}
+use Rattle.column.specs.Part.{listed_in, ReadAt, first_reaching}
 use Rattle.column.specs.declared.Interval.{Interval as Rows}
 use Rattle.column.specs.Laws.Lent.{lent, listed_lent}
-use Rattle.column.specs.Laws.Held.{held_holder}
+use Rattle.column.specs.Laws.Reaching.{reaching_below, reaching_holder}
 use Rattle.task.specs.declared.Extent.{Extent}
 use Rattle.task.specs.Blocks.{SameExtent}
 use Rattle.listing.specs.Columns.{Given}
@@ -36,14 +36,27 @@ module _ (r : List ℕ) (s : sound r ≡ true) (b : Place) (g : Stands (interval
   L : List Interval
   L = intervals (device_of r) (book_of r) b.column
 
-  -- what the search of its column's part answers
-  pub home_found : (p : List ℕ) (n : ℕ) (h : Option Rows) → p ≡ lent r b.column → n ≡ count_of r b.column → h ≡ held_in b.rows.bottom b.rows.top (listed_in p n)
-      → h ≡ Some (home_of (intervals (device_of r) (book_of r)) b).rows
-  unfolding L
-  home_found p n h e m q =
-      let x = clauses_to r s in
-      rw (q, e, m, listed_lent r b.column x.size g.on_device (x.few_intervals b.column g.on_device), listed_said r x b.column g.on_device)
-      (held_holder b.rows.bottom b.rows.top 0 L g.full (column_free (device_of r) (book_of r) b.column).canon g.held)
+  -- the part of its column lists the free intervals there
+  module _ (p : List ℕ) (n : ℕ) (e : p ≡ lent r b.column) (m : n ≡ count_of r b.column) where
+    free_listed : listed_in p n ≡ L
+    unfolding L
+    free_listed = let x = clauses_to r s in rw (e, m, listed_lent r b.column x.size g.on_device (x.few_intervals b.column g.on_device), listed_said r x b.column g.on_device)
+
+    pub listed_apart : Apart 0 (listed_in p n)
+    unfolding L
+    listed_apart = rw free_listed (column_free (device_of r) (book_of r) b.column).canon
+
+    -- and what a search of it finds is the home
+    module _ (i : ℕ) (q : i ≡ first_reaching 0 b.rows.top (listed_in p n)) where
+      pub home_below : i < n
+      unfolding L
+      home_below = reaching_below p n b.rows.bottom b.rows.top g.full listed_apart i q (rw free_listed g.held)
+
+      pub home_found : (h : Rows) → ReadAt p i h → h ≡ (home_of (intervals (device_of r) (book_of r)) b).rows
+      unfolding L
+      home_found h a =
+          let found = reaching_holder p n b.rows.bottom b.rows.top g.full listed_apart i q (rw free_listed g.held) in
+          ap (λ (x : Interval). record { bottom = x.bottom; top = x.top }) (a.is ∙ found ∙ rw free_listed)
 
   -- it ends inside its home
   pub housed : (h : Rows) → h ≡ (home_of (intervals (device_of r) (book_of r)) b).rows → Housed b.rows h
