@@ -89,7 +89,7 @@ impl Search<'_> {
 }
 
 // MODEL 11.5: the choice for a task, or nothing where it fits at no position.
-#[tactic(auto, using(listing::specs::Laws::Column::given_of, crate::specs::Laws::Columns::best_none, crate::specs::Laws::Columns::best_next, crate::specs::Laws::Columns::chooses))]
+#[tactic(auto, using(crate::specs::Laws::Columns::best_next))]
 pub fn best_position(record: SoundRecord, task: Task) -> Option<Choice>
     ensures { Chooses (device_of «record».entry.bytes.now) (book_of «record».entry.bytes.now) task.entry.bytes.now result }
 {
@@ -101,7 +101,7 @@ pub fn best_position(record: SoundRecord, task: Task) -> Option<Choice>
     let mut room = Room::new();
     let mut homes = Homes::new();
     let mut best = None;
-    // By the column's number, which is part of a position. A turn writes `room` beside `best`, which a fold would hide in what it captures.
+    // By the column's number, which is part of a position. A turn writes `room` and `homes` beside `best`, which a fold would hide in what it captures.
     for column in 0..record.columns() {
         best = search.climb_column(column, &mut room, &mut homes, best);
     }

@@ -77,7 +77,7 @@ impl Place {
         }
     }
 
-    // The home of this block, as a search finds it. Its number is where the next one for this block begins.
+    // MODEL 11.1: the home of this block, as a search finds it. Its number is where the next search for this block may begin.
     fn home(self, record: SoundRecord, near: &mut usize) -> Place
         requires { Stands (free_in «record».bytes.now) self }
         ensures home { result ≡ home_of (free_in «record».entry.bytes.now) self }
