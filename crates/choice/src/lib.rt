@@ -101,7 +101,8 @@ pub fn best_position(record: SoundRecord, task: Task) -> Option<Choice>
     let mut room = Room::new();
     let mut homes = Homes::new();
     let mut best = None;
-    // By the column's number, which is part of a position. A turn writes `room` and `homes` beside `best`, which a fold would hide in what it captures.
+    // By the column's number, which is part of a position. A turn writes `room` and `homes` beside `best`, which a fold would hide in what it
+    // captures.
     for column in 0..record.columns() {
         best = search.climb_column(column, &mut room, &mut homes, best);
     }

@@ -35,8 +35,8 @@ struct Tally {
     last: Place,
 }
 
-// For each block of a task, the number of the interval that was its home last, in whichever column: there the search for its next home begins, while
-// the bottoms rise. These are hints: one is tested before it is used, so any numbers will do.
+// For each block of a task, the number of the interval that was its home last, in whichever column: from there the search for its next home goes on
+// while the bottoms rise. These are hints: one is tested before it is used, so any numbers will do.
 #[derive(Drop)]
 pub struct Homes {
     numbers: [usize; MAX_BLOCKS],
@@ -63,8 +63,8 @@ impl Place {
         }
     }
 
-    // Where the search for this block's home begins in its column: at interval `near`, if that is one and begins at the block's bottom or below it, since
-    // what lies below it then ends below the block; else at the lowest.
+    // Where the search for this block's home begins in its column: at interval `near`, if there is one and it begins at the block's bottom or below,
+    // since those under it then end below the block; else at the lowest.
     fn search_start(self, column: Column, near: usize) -> usize
         requires full { self.rows.bottom < self.rows.top }
         requires canon { Apart 0 (listed_in column.part.now column.count) }
