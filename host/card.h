@@ -23,9 +23,9 @@
  *
  * No pointer is kept and nothing is allocated: of the C library the archive needs memcpy and memset.
  *
- * A stack that runs out is outside of these promises. card_new needs at most 8 KiB of stack, card_fragmentation
- * 44 KiB and every other call 36 KiB, whatever its input: no function calls itself, and each frame has a fixed
- * size. host/card/tests/stack measures the figures.
+ * A stack that runs out is outside of these promises. card_fragmentation needs at most 16 KiB of stack and every
+ * other call 8 KiB, whatever its input: no function calls itself, and each frame has a fixed size.
+ * host/card/tests/stack measures the figures.
  */
 #ifndef WALLARNICA_CARD_H
 #define WALLARNICA_CARD_H

@@ -1,7 +1,7 @@
 -- MODEL 13.1: the refusals of the calls, and their numbers. Assumes nothing.
 use Rattle.std.specs.Prelude.{ℕ, ℤ, pos, neg_ℤ}
-use Rattle.record.specs.declared.checked.RecordFault.{RecordFault}
-use Rattle.record.specs.declared.checked.RecordFault.TheVariants as record_fault
+use Rattle.soundness.specs.declared.RecordFault.{RecordFault}
+use Rattle.soundness.specs.declared.RecordFault.TheVariants as record_fault
 use Rattle.task.specs.declared.TaskFault.{TaskFault}
 use Rattle.task.specs.declared.TaskFault.TheVariants as task_fault
 use Rattle.card.specs.declared.refusal.Refusal.{Refusal}

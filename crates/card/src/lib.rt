@@ -20,9 +20,10 @@ mod answers; // what calls answer, and an answer as its number
 pub use answers::{Chosen, Fragmentation, answer};
 use column::Column;
 use record::bytes::Entry;
-use record::checked::{RecordFault, SoundRecord};
+use record::checked::SoundRecord;
 use record::device::Device;
 pub use refusal::Refusal;
+use soundness::RecordFault;
 use task::{Position, Task, TaskFault};
 
 // MODEL 13.1, −1 and −2: bytes that are no sound record.
@@ -41,7 +42,7 @@ impl From<RecordFault> for Refusal {
 fn check_record(record: &[u8]) -> Result<SoundRecord, Refusal>
     ensures { MatchResult result (λ r. r.bytes.now ≡ «record».now) (RefusesRecord «record».now) }
 {
-    Ok(SoundRecord::read(record)?)
+    Ok(soundness::read(record)?)
 }
 
 // MODEL 13.1, −4 and −5: bytes that are no task.

@@ -1,4 +1,4 @@
--- What is proved of devices, entries and columns, and of a record that is cleared, entered, searched and rebuilt.
+-- What is proved of devices, entries and columns, and of a record that is cleared, entered and searched.
 pub mod Device
 pub mod Clear
 -- entries
@@ -15,5 +15,3 @@ pub mod Join
 pub mod Enter
 pub mod Fits
 pub mod Checked
-pub mod Before
-pub mod Rebuild

@@ -7,5 +7,4 @@ pub mod Edit
 pub mod Enter
 pub mod Leave
 pub mod Fits
-pub mod Rebuild
 pub mod Laws

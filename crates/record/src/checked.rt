@@ -1,6 +1,6 @@
-// MODEL 9.1: bytes that are a sound record, as a type. Who has one need not check it again.
-ghost use Rattle.std.specs.Prelude.{◌≡◌, ◌≢◌, true, false, ◌≤◌, ◌<◌, ◌↔◌, length, IfOk, IsErrOf};
-ghost use Rattle.model.specs.Limits.{max_columns, record_size};
+// MODEL 9.1: bytes that are a sound record, as a type: who has one need not check it again. Crate `soundness` makes one of bytes that it has checked.
+ghost use Rattle.std.specs.Prelude.{◌≡◌, true, ◌≤◌, ◌<◌};
+ghost use Rattle.model.specs.Limits.{max_columns};
 ghost use Rattle.model.specs.Columns.{columns, kind};
 ghost use Rattle.model.specs.Kinds.{number_of};
 ghost use Rattle.model.specs.Record.{device_of};
@@ -9,9 +9,8 @@ ghost use Rattle.column.specs.Laws.Lent.{lent};
 
 use crate::bytes::part_at;
 use crate::device::Device;
-use crate::sound::sound;
 use column::Column;
-use model::{COLUMNS_AT, COUNTS_AT, KINDS_AT, Kind, RECORD_SIZE, ROWS_AT};
+use model::{COLUMNS_AT, COUNTS_AT, KINDS_AT, Kind, ROWS_AT};
 use words::get16;
 
 #[derive(Clone, Copy)]
@@ -20,33 +19,11 @@ pub struct SoundRecord<'a> {
     ghost sound: { sound bytes.now ≡ true },
 }
 
-// Why bytes are no sound record: their length is none of a record's, or they are not sound.
-#[derive(Clone, Copy, Debug, PartialEq, Eq)]
-pub enum RecordFault {
-    Length,
-    NotSound,
-}
-
 impl<'a> SoundRecord<'a> {
     ghost use Rattle.record.specs.Device.{as_device};
 
-    // MODEL 9.1: the bytes as a sound record, where they are one.
-    pub fn read(bytes: &'a [u8]) -> Result<SoundRecord<'a>, RecordFault>
-        ensures ok { IfOk result (λ r. r.bytes.now ≡ bytes.now) }
-        ensures length { IsErrOf result RecordFault.Length ↔ (length bytes.now ≢ record_size) }
-        ensures not_sound { IsErrOf result RecordFault.NotSound ↔ ((length bytes.now ≡ record_size) × (sound bytes.now ≡ false)) }
-    {
-        if bytes.len() != RECORD_SIZE {
-            return Err(RecordFault::Length);
-        }
-        if !sound(bytes) {
-            return Err(RecordFault::NotSound);
-        }
-        Ok(SoundRecord { bytes })
-    }
-
     // MODEL 3.2: its device.
-    #[tactic(auto, using(model::proofs::Laws::Sound::sound_length, crate::specs::Laws::Rebuild::device_said, crate::specs::Laws::Checked::device_whole))]
+    #[tactic(auto, using(model::proofs::Laws::Sound::sound_length, crate::specs::Laws::Device::device_said, crate::specs::Laws::Checked::device_whole))]
     pub fn device(self) -> Device<'a>
         ensures { as_device result ≡ device_of self.entry.bytes.now }
     {

@@ -60,7 +60,7 @@ impl<'a> Device<'a> {
     }
 
     // MODEL 8.7: the device that the bytes of a record say, where they say one.
-    #[tactic(auto, using(crate::specs::Laws::Rebuild::device_said))]
+    #[tactic(auto, using(crate::specs::Laws::Device::device_said))]
     pub fn said(record: &'a [u8; RECORD_SIZE]) -> Option<Device<'a>>
         ensures { MatchOption result (device_ok (device_of «record».now) ≡ false) (λ d. as_device d ≡ device_of «record».now) }
     {

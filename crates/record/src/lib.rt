@@ -1,4 +1,5 @@
-// MODEL 8, 9 and 12: the record of a card, written for a new card, changed when a task is entered and when it leaves, searched and checked.
+// MODEL 8 and 12: the record of a card, written for a new card, changed when a task is entered and when it leaves, and searched.
+// Whether bytes are a sound record is a crate of its own, `soundness`.
 #![tactic(auto)]
 
 pub mod bytes;
@@ -10,4 +11,3 @@ pub mod enter;
 pub mod entries;
 pub mod fits;
 pub mod leave;
-pub mod sound;

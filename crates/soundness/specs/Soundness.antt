@@ -1,13 +1,26 @@
 -- MODEL 9: a record checked in one pass over its bytes, as the contracts of `sound` and of what it calls have it. Assumes nothing.
-use Rattle.std.specs.Prelude.{ℕ, ◌+◌, ◌*◌, ◌≤◌, ◌<◌, ◌≡◌, Bool, true, false, List, get_or, take}
+use Rattle.std.specs.Prelude.{ℕ, zero, suc, ◌+◌, ◌*◌, ◌≤◌, ◌<◌, ◌≡◌, Bool, true, false, List, get_or, take}
 use Rattle.model.specs.Limits.{max_blocks, block_size, record_size, columns_at, running_at, kinds_at, counts_at, intervals_at, column_size, entries_at, blocks_at, entry_size}
-use Rattle.model.specs.Book.{held, intervals}
+use Rattle.model.specs.Book.{Book, held, intervals}
 use Rattle.model.specs.Record.{part, column_at, entry_at, device_of, book_of}
 use Rattle.model.specs.Sound.{within, block_count, count_of, sound}
+use Rattle.model.specs.InPlace.{no_entry}
 use Rattle.model.proofs.Laws.Clauses.{Zero}
 use Rattle.cells.specs.Ends.{PartIs}
 use Rattle.cells.specs.Laws.Book.{Shown}
+use Rattle.record.specs.Entries.{entry_of}
 use Rattle.marks.specs.Marks.{words_of}
+
+-- the number of the task before task j of a book, or m where there is none before it
+unfoldable pub prior : ℕ → Book → ℕ → ℕ
+prior m b zero = m
+prior m b (suc j) = (get_or b j no_entry).number
+
+-- MODEL 9.3 and 9.4: entry j of r has a number that rises, and 1 to `max_blocks` blocks
+pub record Passes (r : List ℕ) (j : ℕ) : Type 0 where
+  pub rises : prior 0 (book_of r) j < (entry_of r j).number
+  pub some_blocks : 1 ≤ block_count r j
+  pub few_blocks : block_count r j ≤ max_blocks
 
 -- MODEL 9.8: the unused bytes of entry i, which has blocks, are 0
 abbrev pub RestZero : List ℕ → ℕ → Type 0

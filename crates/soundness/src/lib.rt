@@ -1,9 +1,8 @@
 // MODEL 9: whether bytes are a sound record, in one pass over them. The cells that the running tasks hold are marked as bits, no cell twice, and
 // the clear bits of each column are compared with its intervals.
-// It is another algorithm for what `record::sound` says, and takes its place in a change of its own: the laws and the wrong programs of the other go then.
 #![tactic(auto)]
 
-ghost use Rattle.std.specs.Prelude.{◌≡◌, ◌↔◌, ◌+◌, ◌≤◌, ◌<◌, IsTrue, MatchOption, EachIndex, slice_index, length, get_or, replicate, true, false};
+ghost use Rattle.std.specs.Prelude.{◌≡◌, ◌≢◌, ◌↔◌, ◌+◌, ◌≤◌, ◌<◌, IsTrue, IfOk, IsErrOf, MatchOption, length, get_or, replicate, true, false, ltb};
 ghost use Rattle.model.specs.Limits.{max_columns, max_running, record_size, columns_at, running_at, column_size};
 ghost use Rattle.model.specs.Book.{intervals};
 ghost use Rattle.model.specs.Record.{part, column_at, device_of, book_of};
@@ -12,7 +11,8 @@ ghost use Rattle.model.proofs.Laws.Clauses.{Zero};
 ghost use Rattle.model.proofs.Laws.WriteBack.{Bytes};
 ghost use Rattle.cells.specs.Ends.{PartIs};
 ghost use Rattle.record.specs.Device.{as_device};
-ghost use Rattle.soundness.specs.Soundness.{TasksHeld, ColumnOk, ColumnsOk, Unused, Judged};
+ghost use Rattle.record.specs.Entries.{entry_of};
+ghost use Rattle.soundness.specs.Soundness.{prior, TasksHeld, ColumnOk, ColumnsOk, Unused, Judged};
 
 use cells::ColumnBits;
 use marks::HeldCells;
@@ -21,8 +21,8 @@ use model::{
     MAX_RUNNING, RECORD_SIZE,
 };
 use record::bytes::{EntryBytes, entry_at, part_at, running};
+use record::checked::SoundRecord;
 use record::device::Device;
-use record::sound::rises;
 use std::ops::Range;
 use words::zeros;
 
@@ -49,7 +49,7 @@ struct Marked<'a> {
 
 impl<'a> Legible<'a> {
     // The bytes, where they are legible; else they are no sound record.
-    #[tactic(auto, using(record::specs::Laws::Rebuild::refused_device, record::specs::Laws::Rebuild::refused_running))]
+    #[tactic(auto, using(crate::specs::Laws::Judged::refused_device, crate::specs::Laws::Judged::refused_running))]
     fn read(bytes: &'a [u8; RECORD_SIZE]) -> Option<Legible<'a>>
         ensures { MatchOption result (sound bytes.now ≡ false) (λ l. l.bytes.now ≡ bytes.now) }
     {
@@ -82,6 +82,20 @@ impl<'a> Legible<'a> {
             && self.zeros(entry_at(running(self.bytes))..RECORD_SIZE)
     }
 
+    // MODEL 9.4: whether the number of running entry j is above that of the entry before it, and the first is 1 or more.
+    #[tactic(auto, using(crate::specs::Laws::Tested::rises_first, crate::specs::Laws::Tested::rises_next))]
+    fn rises(&self, j: usize) -> bool
+        requires { j < get_or self.now.bytes.now running_at 0 }
+        ensures { result ≡ ltb (prior 0 (book_of self.now.bytes.now) j) (entry_of self.now.bytes.now j).number }
+    {
+        let bytes = self.bytes;
+        let number = EntryBytes { bytes, j }.number();
+        if j == 0 {
+            return 0 < number;
+        }
+        EntryBytes { bytes, j: j - 1 }.number() < number
+    }
+
     // MODEL 9.3 to 9.6: marks the cells of running entry j, and says whether it is one of a sound record. Its blocks are read where they stand
     // (MODEL 21.5).
     #[tactic(auto, using(crate::specs::Laws::Entries::entry_position))]
@@ -90,7 +104,7 @@ impl<'a> Legible<'a> {
         requires tasks { TasksHeld self.now.bytes.now held.old.words j }
         ensures { Judged self.now.bytes.now (TasksHeld self.now.bytes.now held.new.words (j + 1)) result }
     {
-        if !rises(self.bytes, j) {
+        if !self.rises(j) {
             return false;
         }
         let bytes = self.bytes;
@@ -210,4 +224,26 @@ pub fn sound(record: &[u8]) -> bool
     ensures { result ≡ sound «record».now }
 {
     record.as_array().is_some_and(is_sound)
+}
+
+// Why bytes are no sound record: their length is none of a record's, or they are not sound.
+#[derive(Clone, Copy, Debug, PartialEq, Eq)]
+pub enum RecordFault {
+    Length,
+    NotSound,
+}
+
+// MODEL 9.1: the bytes as a sound record, where they are one.
+pub fn read(record: &[u8]) -> Result<SoundRecord, RecordFault>
+    ensures ok { IfOk result (λ r. r.bytes.now ≡ «record».now) }
+    ensures length { IsErrOf result RecordFault.Length ↔ (length «record».now ≢ record_size) }
+    ensures not_sound { IsErrOf result RecordFault.NotSound ↔ ((length «record».now ≡ record_size) × (sound «record».now ≡ false)) }
+{
+    if record.len() != RECORD_SIZE {
+        return Err(RecordFault::Length);
+    }
+    if !sound(record) {
+        return Err(RecordFault::NotSound);
+    }
+    Ok(SoundRecord { bytes: record })
 }

@@ -74,10 +74,9 @@
 //!
 //! # Stack
 //!
-//! What is proved leaves out a stack that runs out. [`raw::card_new`] needs at
-//! most 8 KiB of it, [`raw::card_fragmentation`] 44 KiB and any other call
-//! 36 KiB, whatever its input; most of that is the record that a call checks
-//! the lent one against. `tests/stack` measures it.
+//! What is proved leaves out a stack that runs out.
+//! [`raw::card_fragmentation`] needs at most 16 KiB of it and any other call
+//! 8 KiB, whatever its input. `tests/stack` measures it.
 
 #![no_std]
 #![deny(missing_docs)]

@@ -11,8 +11,8 @@ use Rattle.model.proofs.Laws.WriteBack.{Bytes}
 use Rattle.model.proofs.Laws.OnRecord.{wrong_length_call, not_sound_call, refused_call, count_wrong_length, count_not_sound, fragmentation_wrong_length, fragmentation_not_sound}
 use Rattle.listing.specs.Columns.{Given}
 use Rattle.record.specs.declared.checked.SoundRecord.{SoundRecord}
-use Rattle.record.specs.declared.checked.RecordFault.{RecordFault}
-use Rattle.record.specs.declared.checked.RecordFault.TheVariants as record_fault
+use Rattle.soundness.specs.declared.RecordFault.{RecordFault}
+use Rattle.soundness.specs.declared.RecordFault.TheVariants as record_fault
 use Rattle.task.specs.declared.Task.{Task}
 use Rattle.task.specs.declared.TaskFault.{TaskFault}
 use Rattle.task.specs.declared.TaskFault.TheVariants as task_fault

@@ -28,11 +28,10 @@ use Rattle.record.specs.Edit.{Seated}
 use Rattle.record.specs.Columns.{column_list, runs_of}
 use Rattle.record.specs.Entries.{entry_of, blocks_of, bytes_entry, HasEntry, HasTask, Removed}
 use Rattle.record.specs.Leave.{free_join, freed, Runs, freed_entry}
-use Rattle.record.specs.Laws.Said.{blocks_part, entry_by_bytes}
+use Rattle.record.specs.Laws.Said.{blocks_part, entry_by_bytes, blocks_sized, count_sound, sound_formed}
 use Rattle.record.specs.Laws.Entries.{without_place}
 use Rattle.record.specs.Laws.Columns.{seat}
 use Rattle.record.specs.Laws.Join.{stands_in, freed_none, freed_room, freed_more, freed_all}
-use Rattle.record.specs.Laws.Rebuild.{blocks_sized, count_sound, sound_formed}
 
 -- ---- an entry of a sound record, by its bytes
 

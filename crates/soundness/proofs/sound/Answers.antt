@@ -1,5 +1,5 @@
 -- `soundness::sound`: bytes of another length are not sound (`sound_array`). Assumes nothing.
-use Rattle.record.specs.Laws.Rebuild.{sound_array}
+use Rattle.soundness.specs.Laws.Judged.{sound_array}
 use Rattle.soundness.proofs.sound.Goals as goal
 
 pub returns : goal.returns

@@ -1,4 +1,4 @@
--- Why the entries' pass is right: in a sound record every running task passes each test, and one that passes is within the limits. Assumes nothing.
+-- Why the entries' pass is right: a running task that passes each test is within the limits. Assumes nothing.
 use Prim.Native.Nat.{ℕ, ◌+◌, ◌*◌, ◌<◌}
 use Rattle.std.specs.Prelude.{◌≡◌, Bool, false, ◌||◌, List, length, take}
 use Rattle.std.proofs.Math.Path.{refl, sym, ap}
@@ -23,10 +23,9 @@ use Rattle.model.proofs.Laws.WriteBack.{Bytes}
 use Rattle.marks.specs.Marks.{EntryPosition, TaskMarked}
 use Rattle.record.specs.Entries.{entry_of, bytes_entry, HasEntry, HasTask}
 use Rattle.record.specs.Laws.Said.{number_said, in_book, entry_by_bytes, blocks_length}
-use Rattle.record.specs.Laws.Before.{prior_above, insert_last}
-use Rattle.record.specs.Rebuild.{Passes}
-use Rattle.record.specs.Laws.Rebuild.{sound_fits}
-use Rattle.soundness.specs.Soundness.{RestZero, TasksHeld, Judged}
+use Rattle.soundness.specs.Soundness.{Passes, RestZero, TasksHeld, Judged}
+use Rattle.soundness.specs.Laws.Before.{prior_above, insert_last}
+use Rattle.soundness.specs.Laws.Tested.{sound_fits}
 
 small_word : (r : List ℕ) (i : ℕ) → Bytes r → word r i < words
 unfolding word

@@ -3,7 +3,6 @@ use Rattle.std.proofs.Common.{◌∙◌, sym}
 use Rattle.std.proofs.lemmas.Bool.{true_from_ne_false}
 use Rattle.std.proofs.Math.Nat.{add-sub_cancel_left}
 use Rattle.model.specs.Record.{part}
-use Rattle.model.proofs.Laws.Bounded.{true_or_false}
 use Rattle.words.specs.Laws.Same.{same_compared}
 use Rattle.soundness.proofs.Legible.has.Goals as goal
 

@@ -5,9 +5,9 @@ use Rattle.model.specs.Limits.{running_at}
 use Rattle.model.specs.Sound.{sound}
 use Rattle.model.proofs.Laws.Bounded.{is_false}
 use Rattle.record.specs.Entries.{HasEntry}
-use Rattle.record.specs.Laws.Rebuild.{refused_number, refused_entry, passed}
 use Rattle.soundness.specs.declared.Legible.{Legible}
 use Rattle.soundness.specs.Laws.Judged.{judged_no}
+use Rattle.soundness.specs.Laws.Tested.{refused_number, refused_entry, passed}
 use Rattle.soundness.specs.Laws.Unused.{rest_unused}
 use Rattle.soundness.specs.Laws.Entries.{entry_position, task_length, step_entry}
 use Rattle.soundness.proofs.Legible.mark_entry.Goals as goal

@@ -2,7 +2,7 @@
 use Rattle.std.proofs.Common.{◌∙◌, arith}
 use Rattle.model.proofs.Laws.Sound.{sound_length, columns_said}
 use Rattle.record.specs.Laws.Checked.{device_whole}
-use Rattle.record.specs.Laws.Rebuild.{device_said}
+use Rattle.record.specs.Laws.Device.{device_said}
 use Rattle.record.proofs.checked.SoundRecord.device.Goals as goal
 
 pub invariant_of-result : goal.invariant_of-result

@@ -16,7 +16,7 @@ use Rattle.model.proofs.Laws.Cells.{covered_holds}
 use Rattle.model.proofs.Laws.Split.{fits_split}
 use Rattle.model.proofs.Laws.Kept.{apart_cells}
 use Rattle.model.proofs.Laws.ReadBack.{get_d_in}
-use Rattle.record.specs.Rebuild.{prior}
+use Rattle.soundness.specs.Soundness.{prior}
 
 take_in : (b : Book) (j : ℕ) (f : Running) → In f (take j b) → In f b
 take_in b zero f i = absurd i

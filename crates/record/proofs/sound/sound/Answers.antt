@@ -1,6 +1,0 @@
--- `record::sound::sound`: bytes of another length are not sound (`sound_array`). Assumes nothing.
-use Rattle.record.specs.Laws.Rebuild.{sound_array}
-use Rattle.record.proofs.sound.sound.Goals as goal
-
-pub returns : goal.returns
-returns c = sound_array _ _ _ c.as_array.ensures.cases c.is_some_and.ensures
