@@ -1,7 +1,8 @@
 -- Where free and not free change in a column: the ends of its maximal free runs, as the set bits of words and as a column's part. Assumes nothing.
-use Rattle.std.specs.Prelude.{ℕ, zero, suc, ◌+◌, ◌*◌, ◌/◌, ◌%◌, ◌≤◌, ◌<◌, ◌≡◌, Bool, true, false, not, ◌&&◌, List, [], ◌∷◌, ◌++◌, map, ltb, length}
+use Rattle.std.specs.Prelude.{ℕ, zero, suc, ◌+◌, ◌*◌, ◌/◌, ◌%◌, ◌≤◌, ◌<◌, ◌≡◌, Bool, true, false, not, ◌&&◌, Option, MatchOption, List, [], ◌∷◌, ◌++◌, map, ltb, length}
 use Rattle.model.specs.Limits.{max_intervals, column_size, words}
 use Rattle.runs.specs.Intervals.{Interval, intervals as maximal_runs}
+use Rattle.model.specs.Tasks.{word}
 use Rattle.model.specs.Record.{padded, column_part}
 use Rattle.model.proofs.Laws.Cells.{scaled}
 use Rattle.cells.specs.Bits.{most_words, word_bits, is_set, cell_bit}
@@ -57,7 +58,7 @@ free_below ws n k = ltb k n && is_free ws k
 unfoldable pub bit_intervals : List ℕ → ℕ → ℕ → List Interval
 bit_intervals ws n h = map (scaled h) (maximal_runs (is_free ws) n)
 
--- ---- writing the part
+-- ---- the numbers of a part
 
 -- the two-byte numbers L
 abbrev pub coded : List ℕ → List ℕ
@@ -73,13 +74,22 @@ SmallEnds h (k ∷ L) = (h * k < words) × SmallEnds h L
 unfoldable pub numbered : ℕ → List ℕ → List ℕ
 numbered h L = padded column_size (coded (map (λ k. h * k) L))
 
+-- the two-byte numbers of the part p from number i on are those of L, times h
+abbrev pub Agree : ℕ → List ℕ → ℕ → List ℕ → Type 0
+Agree h p i [] = Unit {0}
+Agree h p i (k ∷ L) = (word p (2 * i) ≡ h * k) × Agree h p (suc i) L
+
 -- there is room in the part p for the numbers L from number i on
-pub record Writable (h : ℕ) (p : List ℕ) (i : ℕ) (L : List ℕ) : Type 0 where
+pub record HasRoom (h : ℕ) (p : List ℕ) (i : ℕ) (L : List ℕ) : Type 0 where
   pub size : length p ≡ column_size
   pub few : i + length L ≤ 2 * max_intervals
   pub small : SmallEnds h L
 
--- they were written behind the numbers K that p had, and r is the number of the next
+-- they were compared there: n is the number of the next, if all are those that p has
+abbrev pub Compared : ℕ → List ℕ → ℕ → List ℕ → Option ℕ → Type 0
+Compared h p i L r = MatchOption r (Agree h p i L → ⊥) (λ n. Agree h p i L × (n ≡ i + length L))
+
+-- they were written there, behind the numbers K that p had, and r is the number of the next
 pub record EndsWritten (h : ℕ) (p : List ℕ) (i : ℕ) (L : List ℕ) (q : List ℕ) (r : ℕ) : Type 0 where
   pub count : r ≡ i + length L
   pub wrote : (K : List ℕ) → p ≡ numbered h K → i ≡ length K → q ≡ numbered h (K ++ L)

@@ -5,5 +5,7 @@ pub mod Coded
 pub mod Ends
 pub mod Marks
 pub mod Count
+pub mod Walks
 pub mod Writes
+pub mod Compares
 pub mod Book

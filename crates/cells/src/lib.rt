@@ -1,15 +1,15 @@
 // The cells of a column as bits: bit k of the column's words is set where cell k is held.
 #![tactic(auto)]
 
-ghost use Rattle.std.specs.Prelude.{◌≡◌, Bool, cond, [], ℕ, ◌+◌, ◌-◌, ◌*◌, ◌≤◌, ◌<◌, length, ltb};
-ghost use Rattle.model.specs.Limits.{max_intervals, words as two_bytes};
+ghost use Rattle.std.specs.Prelude.{◌≡◌, ◌↔◌, Bool, IsTrue, cond, [], ℕ, ◌+◌, ◌-◌, ◌*◌, ◌≤◌, ◌<◌, length, ltb};
+ghost use Rattle.model.specs.Limits.{max_intervals, column_size, words as two_bytes};
 ghost use Rattle.model.specs.Bounded.{sum_below};
 ghost use Rattle.model.specs.Record.{column_part};
 ghost use Rattle.cells.specs.Bits.{most_words, word_bits, is_set, cell_bit, between, Shows, RunIn, Marked};
-ghost use Rattle.cells.specs.Ends.{Fillable, one_below, change, spots, free_below, bit_intervals, Writable, EndsWritten, PartIs};
+ghost use Rattle.cells.specs.Ends.{Fillable, one_below, change, spots, free_below, bit_intervals, HasRoom, Compared, EndsWritten, PartIs};
 
 use std::ops::Range;
-use words::put16;
+use words::{get16, put16, zeros};
 
 // A column's cells: their bits, how many they are, and their height in half rows. The ends of its free intervals are numbers of two bytes.
 #[derive(Clone, Copy)]
@@ -93,9 +93,9 @@ fn top_bit(word: u64) -> u64
 }
 
 // Writes the set bits of a word, each times the height, into a part from number `from` on, and answers the number of the next.
-#[tactic(auto, using(crate::specs::Laws::Writes::writing_start, crate::specs::Laws::Writes::writing_room, crate::specs::Laws::Spots::cleared_less))]
+#[tactic(auto, using(crate::specs::Laws::Writes::writing_start, crate::specs::Laws::Walks::left_room, crate::specs::Laws::Spots::cleared_less))]
 fn write_ends(part: &mut [u8], from: usize, word: u64, base: u32, height: u32) -> usize
-    requires { Writable height part.old from (spots base word_bits word) × (base ≤ word_bits * most_words) }
+    requires { HasRoom height part.old from (spots base word_bits word) × (base ≤ word_bits * most_words) }
     ensures { EndsWritten height part.old from (spots base word_bits word) part.new result }
 {
     let mut rest = word;
@@ -107,6 +107,26 @@ fn write_ends(part: &mut [u8], from: usize, word: u64, base: u32, height: u32) -
         i += 1;
     }
     i
+}
+
+// Compares numbers of a part, from number `from` on, with the set bits of a word, each times the height, and answers the number of the next if all are
+// the same.
+#[tactic(auto, using(crate::specs::Laws::Compares::comparing_start, crate::specs::Laws::Walks::left_room, crate::specs::Laws::Spots::cleared_less))]
+fn same_ends(part: &[u8], from: usize, word: u64, base: u32, height: u32) -> Option<usize>
+    requires { HasRoom height part.now from (spots base word_bits word) × (base ≤ word_bits * most_words) }
+    ensures { Compared height part.now from (spots base word_bits word) result }
+{
+    let mut rest = word;
+    let mut i = from;
+    // a `while`, as above
+    while rest != 0 {
+        if get16(part, 2 * i) != height * (base + rest.trailing_zeros()) {
+            return None;
+        }
+        rest &= rest - 1;
+        i += 1;
+    }
+    Some(i)
 }
 
 // The first cell of word q.
@@ -131,21 +151,51 @@ impl ColumnBits<'_> {
         !word & low(self.cells.saturating_sub(first_cell(q)))
     }
 
-    // Writes the free intervals of the column into its part, which is all zeros, and answers how many they are. By the word's number: behind the last word
-    // there is one more, of zeros, in which the last interval ends.
+    // The free bit below word q: the highest of the word before it.
+    fn carry(self, q: usize) -> u64
+        requires { q ≤ length self.words.now }
+        ensures { (result < 2) × (is_set result ≡ one_below (free_below self.entry.words.now self.entry.cells) (word_bits * q)) }
+    {
+        if q == 0 {
+            return 0;
+        }
+        top_bit(self.free(q - 1))
+    }
+
+    // The bits of word q at which free and not free change. Behind the last word there is one more, of zeros, in which the last interval ends.
+    fn changes(self, q: usize) -> u64
+        requires { q ≤ length self.words.now }
+        ensures { Shows result (change (free_below self.entry.words.now self.entry.cells)) (word_bits * q) }
+    {
+        change_word(self.free(q), self.carry(q))
+    }
+
+    // Writes the free intervals of the column into its part, which is all zeros, and answers how many they are. By the word's number, which says what its
+    // first cell is.
     pub fn fill(self, part: &mut [u8]) -> usize
         requires { part.old ≡ column_part [] }
         ensures { PartIs part.new result (bit_intervals self.entry.words.now self.entry.cells self.entry.height) }
     {
         let mut i = 0;
-        let mut carry = 0;
         for q in 0..self.words.len() + 1 {
-            let free = self.free(q);
-            let changes = change_word(free, carry);
-            i = write_ends(part, i, changes, first_cell(q), self.height);
-            carry = top_bit(free);
+            i = write_ends(part, i, self.changes(q), first_cell(q), self.height);
         }
         i / 2
+    }
+
+    // Whether a part and a count are those of the free intervals of the column: their ends, and zeros behind them. By the word's number too.
+    pub fn lists(self, part: &[u8], count: usize) -> bool
+        requires { length part.now ≡ column_size }
+        ensures { IsTrue result ↔ PartIs part.now count (bit_intervals self.entry.words.now self.entry.cells self.entry.height) }
+    {
+        let mut i = 0;
+        for q in 0..self.words.len() + 1 {
+            let Some(next) = same_ends(part, i, self.changes(q), first_cell(q), self.height) else {
+                return false;
+            };
+            i = next;
+        }
+        i / 2 == count && zeros(&part[2 * i..])
     }
 }
 

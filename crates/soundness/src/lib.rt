@@ -9,7 +9,7 @@ ghost use Rattle.model.specs.Record.{part, column_at, device_of, book_of};
 ghost use Rattle.model.specs.Sound.{count_of, sound};
 ghost use Rattle.model.proofs.Laws.Clauses.{Zero};
 ghost use Rattle.model.proofs.Laws.WriteBack.{Bytes};
-ghost use Rattle.cells.specs.Ends.{PartIs};
+ghost use Rattle.cells.specs.Ends.{bit_intervals};
 ghost use Rattle.record.specs.Device.{as_device};
 ghost use Rattle.record.specs.Entries.{entry_of};
 ghost use Rattle.soundness.specs.Soundness.{prior, TasksHeld, ColumnOk, ColumnsOk, Unused, Judged};
@@ -61,7 +61,7 @@ impl<'a> Legible<'a> {
     }
 
     // Whether the bytes of a range are 0.
-    #[tactic(auto, using(crate::specs::Laws::Unused::zeros_decided))]
+    #[tactic(auto, using(words::specs::Laws::Zeros::zeros_decided))]
     fn zeros(&self, range: Range<usize>) -> bool
         requires some { range.start ≤ range.end }
         requires within { range.end ≤ record_size }
@@ -131,34 +131,22 @@ impl<'a> Legible<'a> {
         }
         true
     }
-
-    // Whether column c has this part and this count.
-    fn has(&self, c: usize, listed: &[u8; COLUMN_SIZE], count: usize) -> bool
-        requires { c < max_columns }
-        ensures { IsTrue result ↔ ((part self.now.bytes.now (column_at c) column_size ≡ listed.now) × (count_of self.now.bytes.now c ≡ count)) }
-    {
-        let bytes = self.bytes;
-        let part = &bytes[part_at(c)];
-        usize::from(bytes[COUNTS_AT + c]) == count && part == listed.as_slice()
-    }
 }
 
 impl Marked<'_> {
-    // MODEL 7.3 and 8.3: writes the free intervals of column c into a part of zeros, by its bits, and answers how many they are.
-    #[tactic(auto, using(marks::specs::Laws::Marks::few_rows, model::proofs::Laws::Record::column_part_nil))]
-    fn list(&self, c: usize, part: &mut [u8]) -> usize
-        requires column { c < length self.now.legible.device.kinds.now }
-        requires zeros { part.old ≡ replicate column_size 0 }
-        ensures { PartIs part.new result (intervals (device_of self.now.legible.bytes.now) (book_of self.now.legible.bytes.now) c) }
+    // The cells of column c, as bits.
+    #[tactic(auto, using(marks::specs::Laws::Marks::few_rows))]
+    fn bits(&self, c: usize) -> ColumnBits
+        requires { c < length self.now.legible.device.kinds.now }
+        ensures { bit_intervals result.words.now result.cells result.height ≡ intervals (device_of self.now.legible.bytes.now) (book_of self.now.legible.bytes.now) c }
     {
         let device = self.legible.device;
         let kind = Kind::try_from(device.kinds[c]).unwrap();
-        let bits = ColumnBits {
+        ColumnBits {
             words: self.held.column(c),
             cells: kind.cells(device.rows),
             height: kind.height(),
-        };
-        bits.fill(part)
+        }
     }
 
     // MODEL 9.7: whether column c lists its free intervals.
@@ -166,34 +154,16 @@ impl Marked<'_> {
         requires { c < length self.now.legible.device.kinds.now }
         ensures { IsTrue result ↔ ColumnOk self.now.legible.bytes.now c }
     {
-        let mut part = [0; COLUMN_SIZE];
-        let count = self.list(c, &mut part);
-        self.legible.has(c, &part, count)
+        let bytes = self.legible.bytes;
+        self.bits(c)
+            .lists(&bytes[part_at(c)], usize::from(bytes[COUNTS_AT + c]))
     }
 
-    // The same for columns c and c + 1. Each part is read some time after it was written: bytes read at once would have to wait for the writes.
-    fn two_ok(&self, c: usize) -> bool
-        requires { c + 1 < length self.now.legible.device.kinds.now }
-        ensures { IsTrue result ↔ (ColumnOk self.now.legible.bytes.now c × ColumnOk self.now.legible.bytes.now (c + 1)) }
-    {
-        let mut lower = [0; COLUMN_SIZE];
-        let mut upper = [0; COLUMN_SIZE];
-        let n = self.list(c, &mut lower);
-        let m = self.list(c + 1, &mut upper);
-        self.legible.has(c, &lower, n) && self.legible.has(c + 1, &upper, m)
-    }
-
-    // The same for all columns. By a loop: columns are counted in pairs, and the last may be alone.
+    // The same for all columns.
     fn columns_ok(&self) -> bool
         ensures { IsTrue result ↔ ColumnsOk self.now.legible.bytes.now (length self.now.legible.device.kinds.now) }
     {
-        let columns = self.legible.device.kinds.len();
-        for k in 0..columns / 2 {
-            if !self.two_ok(2 * k) {
-                return false;
-            }
-        }
-        columns % 2 == 0 || self.column_ok(columns - 1)
+        (0..self.legible.device.kinds.len()).all(|c| self.column_ok(c))
     }
 }
 

@@ -1,7 +1,5 @@
 -- MODEL 10.4: a task in one column of a sound record, what the walks need of the record, and the model's ranges at the end. Assumes nothing.
 use Rattle.std.specs.Prelude.{ℕ, ◌+◌, ◌*◌, ◌≤◌, ◌<◌, ◌≡◌, ◌↔◌, refl, Bool, true, false, MatchBool, List, [], map, length, All}
-use Rattle.std.specs.List.{AllWithin, HoldsAt, range_with_len}
-use Rattle.std.proofs.lemmas.List.FromFn.{length-range_with_len, get_or-range_with_len}
 use Rattle.std.proofs.Common.{sym, subst, arith, add-one, zero-add}
 use Rattle.std.proofs.lemmas.Bool.{false≢true}
 use Rattle.std.proofs.Math.ListN.{get_or}
@@ -61,15 +59,6 @@ module _ (r t : List ℕ) (g : Given r t) where
 
   pub block_ready : (k : ℕ) → k < blocks t → (block_size * k + block_size ≤ length t) × ((block t k).kind ≤ max_kind)
   block_ready k l = ready t k g.formed l
-
--- whether each of n blocks is in a column of its kind, from whether each of the numbers below n is
-pub on_each : (r t : List ℕ) (p n : ℕ) (q : Bool) → n ≡ blocks t
-    → MatchBool q (AllWithin (On r t p) (range_with_len 0 n) 0 (length (range_with_len 0 n))) ((k : ℕ) × (k < length (range_with_len 0 n)) × HoldsAt (λ j. On r t p j → ⊥) (range_with_len 0 n) k)
-    → (q ≡ true) ↔ OnEach r t p
-on_each r t p n true e h = (λ u k l. let b : k < n = omega arith in rw (get_or-range_with_len 0 n k 0 b, zero-add) at (h k 0 (omega arith) (rw length-range_with_len b)), λ f. refl)
-on_each r t p n false e (k, l, h) =
-    let b : k < n = rw length-range_with_len at l in
-    (λ u. absurd (false≢true u), λ f. absurd ((rw (get_or-range_with_len 0 n k 0 b, zero-add) at (h 0)) (f k (omega arith))))
 
 -- ---- one block more
 

@@ -1,12 +1,8 @@
 -- MODEL 6: why `fits` is right. Each test that refuses is one of the model's, and where all pass, a free interval holds the block just where it fits.
 -- Assumes nothing.
-use Rattle.std.specs.Prelude.{ℕ, ◌+◌, ◌-◌, ◌*◌, ◌%◌, ◌≤◌, ◌<◌, ◌≡◌, ◌⊎◌, ◌↔◌, Bool, true, false, Option, Some, None, List, get_or}
+use Rattle.std.specs.Prelude.{ℕ, ◌+◌, ◌-◌, ◌*◌, ◌%◌, ◌≤◌, ◌<◌, ◌≡◌, ◌↔◌, Bool, true, false, Option, Some, None, List, get_or}
 use Rattle.std.specs.Option.{is_some}
-use Rattle.std.specs.List.{list_all, range_with_len}
-use Rattle.std.proofs.lemmas.List.FromFn.{length-range_with_len, get_or-range_with_len}
-use Rattle.std.proofs.lemmas.List.Folds.{list_all_at}
-use Rattle.std.proofs.lemmas.List.Sums.{list_all-from_AllPass}
-use Rattle.std.proofs.Common.{sym, ◌∙◌, inl, inr, arith, zero-add}
+use Rattle.std.proofs.Common.{sym, ◌∙◌, arith}
 use Rattle.std.proofs.lemmas.Bool.{false≢true}
 use Rattle.runs.specs.Intervals.{Interval, Holds}
 use Rattle.model.specs.Limits.{max_rows, max_columns, reach, columns_at}
@@ -16,8 +12,7 @@ use Rattle.model.specs.Tasks.{Block, blocks, block, sized, well_formed}
 use Rattle.model.specs.Book.{intervals, block_fits, fits}
 use Rattle.model.specs.Record.{device_of, book_of}
 use Rattle.model.specs.Sound.{count_of, sound}
-use Rattle.model.proofs.Laws.Bounded.{clash, is_false, same_test, true_or_false, all_of, all_to}
-use Rattle.model.specs.Bounded.{all_below}
+use Rattle.model.proofs.Laws.Bounded.{is_false, same_test}
 use Rattle.model.proofs.Laws.Tasks.{sized_to, solid_block}
 use Rattle.model.proofs.Laws.Fits.{Fitting, fitting_to, fitting_of, fits_below}
 use Rattle.model.proofs.Laws.Limits.{limits_to}
@@ -82,17 +77,6 @@ pub held_seen : (r t : List ℕ) (k p y : ℕ) (n : Seen) (i : Read) (ok : Bool)
     → SaysHeld r (p + n.extent.column) i ok → ok ≡ block_fits (device_of r) (book_of r) (block t k) p y
 held_seen r t k p y n i ok w l s q e a g is h =
     rw (← same_seen n (block t k) s) (held_block r (seen n) p y ok (solid_seen t k n w l s).full q e a g (rw is at h.held))
-
--- what holds of each number of a range
-pub range_all : (p : ℕ → Bool) (n : ℕ) → list_all p (range_with_len 0 n) ≡ all_below n p
-range_all p n =
-    same_test (list_all p (range_with_len 0 n)) (all_below n p)
-    (λ h. all_of n p (λ k l. go k l (true_or_false (p k)) h))
-    (λ h. list_all-from_AllPass p (range_with_len 0 n) (λ k d l. let q : k < n = rw length-range_with_len at l in rw (get_or-range_with_len 0 n k d q, zero-add) (all_to n p h k q)))
-  where
-    go : (k : ℕ) → k < n → (p k ≡ true) ⊎ (p k ≡ false) → list_all p (range_with_len 0 n) ≡ true → p k ≡ true
-    go k l (inl t) h = t
-    go k l (inr f) h = clash h (list_all_at p (range_with_len 0 n) k 0 (rw length-range_with_len l) (rw (get_or-range_with_len 0 n k 0 l, zero-add) f))
 
 module _ (r t : List ℕ) (p y : ℕ) (s : sound r ≡ true) (z : sized t ≡ true) (w : well_formed t ≡ true) where
   pub off : ((p < columns (device_of r)) × (y < 2 * max_rows) → ⊥) → (ok : Bool) → ok ≡ false → ok ≡ fits (device_of r) (book_of r) t p y

@@ -1,6 +1,6 @@
 -- Why the columns' pass is right. Assumes nothing.
 use Rattle.std.specs.Prelude.{ℕ, ◌+◌, ◌*◌, ◌≤◌, ◌<◌, ◌≡◌, true, List, length, get_or, take, Result, Ok, Err, IsOk}
-use Rattle.std.proofs.Common.{refl, ap, ◌∙◌, arith, below_more, take_all}
+use Rattle.std.proofs.Common.{refl, ap, ◌∙◌, arith, take_all}
 use Rattle.std.proofs.Math.Nat.{mul-div-le}
 use Rattle.model.specs.Limits.{max_columns, max_kind, column_size, columns_at, counts_at, running_at}
 use Rattle.model.specs.Columns.{Device, columns, kind, cells, cells_in, height, device_ok}
@@ -14,11 +14,11 @@ use Rattle.model.specs.Sound.{within, sound}
 use Rattle.model.proofs.Laws.Record.{record_column, record_count}
 use Rattle.model.proofs.Laws.WriteBack.{Bytes}
 use Rattle.model.proofs.Laws.Sound.{columns_said, running_said, sound_record}
-use Rattle.cells.specs.Ends.{Fillable, PartIs, bit_intervals}
+use Rattle.cells.specs.Ends.{Fillable, bit_intervals}
 use Rattle.cells.specs.Laws.Book.{shown_intervals}
 use Rattle.marks.specs.Marks.{column_words, words_of}
 use Rattle.marks.specs.Laws.Marks.{few_rows, few_cells}
-use Rattle.soundness.specs.Soundness.{TasksHeld, ColumnOk, ColumnsOk}
+use Rattle.soundness.specs.Soundness.{TasksHeld, ColumnOk}
 
 -- the device that was read of r
 module _ (r : List ℕ) {d : Device} (e : d ≡ device_of r) where
@@ -68,8 +68,8 @@ module _ (r H : List ℕ) (m : TasksHeld r H (get_or r running_at 0)) where
             small = rw (same_cells, same_height) (omega (arith, few_rows (device_of r) m));
           }
 
-      pub part_is : {p : List ℕ} {i : ℕ} → PartIs p i (bit_intervals (words_of H c) n h) → PartIs p i (intervals (device_of r) (book_of r) c)
-      part_is l = rw (runs_are, ← same_height, ← same_cells) l
+      pub bits_are : bit_intervals (words_of H c) n h ≡ intervals (device_of r) (book_of r) c
+      bits_are = rw (runs_are, ← same_height, ← same_cells)
 
 -- a column of a sound record lists its free intervals
 pub sound_column : (r : List ℕ) → Bytes r → sound r ≡ true → (c : ℕ) → c < max_columns → ColumnOk r c
@@ -86,9 +86,3 @@ sound_column r B s c q =
 pub kind_read : (n : ℕ) {k : Result Kind UnknownKind} → k ≡ kind_of n → n ≤ max_kind → IsOk k
 kind_read n {k = Ok t} e q = refl
 kind_read n {k = Err u} e q = absurd (omega (arith, (kind_unknown n (Err u) u e refl).1))
-
--- two columns more
-pub two_more : (r : List ℕ) (c : ℕ) → ColumnsOk r c → ColumnOk r c × ColumnOk r (c + 1) → ColumnsOk r (c + 2)
-two_more r c m (a, b) =
-    let e : c + 1 + 1 ≡ c + 2 = omega arith in
-    rw e at (below_more _ (c + 1) (below_more _ c m a) b)

@@ -1,12 +1,15 @@
--- Bytes or-ed together, which is 0 just where all of them are. Assumes nothing.
+-- Bytes or-ed together, which is 0 just where all of them are, and what a test for zeros says of bytes that are lent. Assumes nothing.
 use Rattle.std.specs.Prelude.{ℕ, zero, suc, ◌+◌, ◌-◌, ◌≤◌, ◌<◌, ◌≡◌, refl, ◌⊎◌, Bool, true, false, List, [], ◌∷◌, eqb, get_or, take, drop}
 use Rattle.std.proofs.Common.{sym, ◌∙◌, inl, inr, arith, length-take, get_or-take, get_or-drop, eqb-true}
 use Rattle.std.specs.List.{fold}
+use Rattle.std.specs.Bool.{Decides}
 use Rattle.std.proofs.lemmas.Bool.{false≢true, eqb-false}
 use Rattle.std.specs.Int.Bits.{bit_or, or_add_and}
 use Rattle.std.proofs.lemmas.Nat.{and_le_l, and_le_r}
 use Rattle.std.proofs.Math.ListN.{get_or-eq_default}
 use Rattle.runs.specs.Laws.Tests.{lt_or_ge}
+use Rattle.model.proofs.Laws.Bounded.{true_or_false}
+use Rattle.model.proofs.Laws.Clauses.{Zero}
 use Rattle.words.specs.Words.{AllZero}
 
 pub or_none : (a b : ℕ) → bit_or a b ≡ 0 → (a ≡ 0) × (b ≡ 0)
@@ -64,3 +67,21 @@ module _ (p : List ℕ) (n : ℕ) where
       go : t ≡ true → (j : ℕ) → (j < n) ⊎ (n ≤ j) → get_or p j 0 ≡ 0
       go f j (inl q) = sym (get_or-take n p j 0 q) ∙ z.yes e j
       go f j (inr q) = let s : m + (j - m) ≡ j = omega arith in rw s at (sym (get_or-drop m p (j - m) 0) ∙ y.yes f (j - m))
+
+-- ---- bytes from n up to m, as they are lent
+
+pub zeros_decided : (r : List ℕ) (n m : ℕ) (ok : Bool) → AllZero (take (m - n) (drop n r)) ok → Decides ok (Zero r n m)
+zeros_decided r n m ok z = (to, λ k. of k (true_or_false ok))
+  where
+    to : ok ≡ true → Zero r n m
+    to f i p q =
+        let e : n + (i - n) ≡ i = omega arith in
+        rw e at (sym (get_or-drop n r (i - n) 0) ∙ sym (get_or-take (m - n) (drop n r) (i - n) 0 (omega arith)) ∙ z.yes f (i - n))
+
+    go : Zero r n m → (i : ℕ) → (i < m - n) ⊎ (m - n ≤ i) → get_or (take (m - n) (drop n r)) i 0 ≡ 0
+    go k i (inl q) = get_or-take (m - n) (drop n r) i 0 q ∙ get_or-drop n r i 0 ∙ k (n + i) (omega arith) (omega arith)
+    go k i (inr q) = get_or-eq_default (take (m - n) (drop n r)) 0 (rw length-take (omega arith))
+
+    of : Zero r n m → (ok ≡ true) ⊎ (ok ≡ false) → ok ≡ true
+    of k (inl t) = t
+    of k (inr f) = absurd (z.no f (λ i. go k i (lt_or_ge i (m - n))))
