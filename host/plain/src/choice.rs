@@ -29,8 +29,9 @@ struct Best {
 struct Choice<'a> {
     record: &'a Record,
     task: &'a Task,
-    /// For each block, the number of the interval in which it last stood: as the bottom rises, it stands there or higher.
-    stands: [u8; MAX_BLOCKS],
+    /// For each block, the number of the interval in which it was last found, in whichever column: as the bottom
+    /// rises, it is found there or a little higher.
+    stands: [usize; MAX_BLOCKS],
     best: Option<Best>,
 }
 
@@ -40,7 +41,6 @@ pub fn chosen(record: &Record, task: &Task) -> Option<(usize, i32)> {
     let mut choice = Choice::of(record, task);
     for column in 0..columns(record) {
         let ranges = search.column_ranges(record, task, column);
-        choice.stands = LOWEST;
         for &range in ranges.all() {
             choice.climb(column, range, ranges.step);
         }
@@ -48,16 +48,13 @@ pub fn chosen(record: &Record, task: &Task) -> Option<(usize, i32)> {
     choice.best.map(|best| (best.column, best.bottom))
 }
 
-/// Where the search for the interval of each block begins in a new column.
-const LOWEST: [u8; MAX_BLOCKS] = [0; MAX_BLOCKS];
-
 impl Choice<'_> {
     /// A search before its first column.
     fn of<'a>(record: &'a Record, task: &'a Task) -> Choice<'a> {
         Choice {
             record,
             task,
-            stands: LOWEST,
+            stands: [0; MAX_BLOCKS],
             best: None,
         }
     }
@@ -109,9 +106,8 @@ impl Choice<'_> {
                 None => {
                     // The first of them counts the height, and the piece below: between two blocks it
                     // is the piece above the lower one.
-                    let hint = usize::from(*stand);
-                    let (number, holder) = home(self.record, here, hint, bottom, top)?;
-                    *stand = number as u8;
+                    let (number, holder) = home(self.record, here, *stand, bottom, top)?;
+                    *stand = number;
                     score.pieces += u32::from(holder.bottom < bottom);
                     score.stretch += holder.top - holder.bottom;
                     holder
