@@ -250,3 +250,152 @@ fn a_block_off_the_device_is_not_sound_though_it_takes_no_cells() {
     }
     assert_eq!((tally.sound, tally.unsound), (0, 21));
 }
+
+/// A card of mixed columns, as many blocks on it as can be: a comb in each column, one of logic up to the last cell.
+fn crowded() -> Vec<u8> {
+    let mut record = vec![0; RECORD_SIZE];
+    let kinds = [0, 1, 0, 2].repeat(16);
+    assert_eq!(plain::new(&mut record, 128, &kinds), 0);
+    for (column, &kind) in (0..).zip(&kinds) {
+        let height = height(kind) as i16;
+        let (teeth, apart) = if kind == 0 { (32, 4) } else { (25, 2) };
+        let tooth = |k: i16| {
+            let ([b, bb], [t, tt]) = (
+                (height * apart * k).to_le_bytes(),
+                (height * (apart * k + 1)).to_le_bytes(),
+            );
+            [0, kind, b, bb, t, tt]
+        };
+        let comb: Vec<u8> = (0..teeth).flat_map(tooth).collect();
+        let bottom = if kind == 0 { 6 } else { 5 };
+        let placed = plain::place(&mut record, &comb, 900 * column + 1, column, bottom);
+        assert_eq!(placed, 0);
+    }
+    record
+}
+
+#[test]
+fn every_byte_of_a_crowded_record_is_judged_alike_by_all() {
+    let mut rng = Rng::new(19);
+    let mut tally = Tally::default();
+    let mut record = crowded();
+    tally.judge_by_all(&record, "as it was");
+    for at in 0..RECORD_SIZE {
+        let old = record[at];
+        record[at] = match rng.below(3) {
+            0 => old ^ (1 << rng.below(8)),
+            1 => old.wrapping_add(rng.pick(&[1, 255])),
+            _ => old ^ rng.between(1, 255) as u8,
+        };
+        tally.judge_by_all(&record, &format!("byte {at}: {old} to {}", record[at]));
+        record[at] = old;
+    }
+    // Nothing but the number of a task can be another one by itself.
+    assert!((20..=128).contains(&tally.sound), "{tally:?}");
+}
+
+#[test]
+fn every_value_of_the_bytes_on_which_others_depend_is_judged_alike() {
+    let mut tally = Tally::default();
+    for mut record in [full(true), full(false), crowded()] {
+        let last = running(record[..].try_into().expect("a record's length")) - 1;
+        let head = [
+            ROWS_AT,
+            ROWS_AT + 1,
+            COLUMNS_AT,
+            RUNNING_AT,
+            KINDS_AT,
+            COUNTS_AT,
+        ];
+        let entries = [0, last].map(|index| entry_part(index).start);
+        let of_entries = entries
+            .into_iter()
+            .flat_map(|start| start..start + BLOCKS_AT + 2 * BLOCK_SIZE);
+        for at in head.into_iter().chain(of_entries) {
+            let old = record[at];
+            for value in 0..=255 {
+                record[at] = value;
+                tally.judge(&record, &format!("byte {at} is {value}"));
+            }
+            record[at] = old;
+        }
+    }
+    assert!(tally.sound > 500 && tally.unsound > 20_000, "{tally:?}");
+}
+
+/// The blocks' bytes of a running task.
+fn blocks_of(record: &mut [u8], index: usize) -> &mut [[u8; BLOCK_SIZE]] {
+    let entry = &mut record[entry_part(index)];
+    let count = usize::from(entry[ENTRY_COUNT_AT]);
+    let end = BLOCKS_AT + BLOCK_SIZE * count;
+    entry[BLOCKS_AT..end].as_chunks_mut().0
+}
+
+/// Adds to the bottom and the top of a block.
+fn lift(block: &mut [u8; BLOCK_SIZE], by: u32) {
+    for at in [2, 4] {
+        let lifted = word(block, at) + by;
+        put_word(block, at, lifted);
+    }
+}
+
+/// A change after which the running tasks hold the same cells as before.
+type Change = fn(&mut [u8]);
+
+#[test]
+fn the_same_cells_in_another_form_are_not_sound() {
+    let changes: [(&str, Change); 7] = [
+        ("blocks exchanged", |record| blocks_of(record, 1).swap(1, 2)),
+        ("the first bottom is not 0", |record| {
+            blocks_of(record, 1)
+                .iter_mut()
+                .for_each(|block| lift(block, 2));
+            let entry = &mut record[entry_part(1)];
+            let bottom = word(entry, ENTRY_BOTTOM_AT);
+            put_word(entry, ENTRY_BOTTOM_AT, bottom - 2);
+        }),
+        ("the first column is not 0", |record| {
+            blocks_of(record, 1)
+                .iter_mut()
+                .for_each(|block| block[0] += 1);
+            record[entry_part(1)][ENTRY_COLUMN_AT] -= 1;
+        }),
+        ("a block in two that touch", |record| {
+            let entry = &mut record[entry_part(0)];
+            entry[ENTRY_COUNT_AT] += 1;
+            let blocks = blocks_of(record, 0);
+            blocks.copy_within(0..2, 1);
+            put_word(&mut blocks[0], 4, 2);
+            put_word(&mut blocks[1], 2, 2);
+        }),
+        ("two numbers are equal", |record| {
+            record.copy_within(
+                entry_part(0).start..entry_part(0).start + 2,
+                entry_part(1).start,
+            )
+        }),
+        ("a task is there twice", |record| {
+            record[RUNNING_AT] += 1;
+            record.copy_within(entry_part(1), entry_part(2).start);
+            put_word(&mut record[entry_part(2)], ENTRY_NUMBER_AT, 9);
+        }),
+        ("a task has no blocks", |record| {
+            record[RUNNING_AT] += 1;
+            put_word(&mut record[entry_part(2)], ENTRY_NUMBER_AT, 9);
+        }),
+    ];
+    let mut record = vec![0; RECORD_SIZE];
+    assert_eq!(plain::new(&mut record, 30, &[0, 0, 0]), 0);
+    let two_cells = [0, 0, 0, 0, 4, 0, 1, 0, 0, 0, 2, 0];
+    assert_eq!(plain::place(&mut record, &two_cells, 5, 0, 0), 0);
+    let comb: Vec<u8> = (0..4).flat_map(|k| cell_block(0, 4 * k)).collect();
+    assert_eq!(plain::place(&mut record, &comb, 7, 1, 4), 0);
+    let mut tally = Tally::default();
+    tally.judge_by_all(&record, "as it was");
+    for (what, change) in changes {
+        let mut record = record.clone();
+        change(&mut record);
+        tally.judge_by_all(&record, what);
+    }
+    assert_eq!((tally.sound, tally.unsound), (1, 7));
+}
