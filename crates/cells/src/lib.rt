@@ -176,11 +176,11 @@ impl ColumnBits<'_> {
         requires { part.old ≡ column_part [] }
         ensures { PartIs part.new result (bit_intervals self.entry.words.now self.entry.cells self.entry.height) }
     {
-        let mut i = 0;
+        let mut written = 0;
         for q in 0..self.words.len() + 1 {
-            i = write_ends(part, i, self.changes(q), first_cell(q), self.height);
+            written = write_ends(part, written, self.changes(q), first_cell(q), self.height);
         }
-        i / 2
+        written / 2
     }
 
     // Whether a part and a count are those of the free intervals of the column: their ends, and zeros behind them. By the word's number too.
@@ -188,14 +188,15 @@ impl ColumnBits<'_> {
         requires { length part.now ≡ column_size }
         ensures { IsTrue result ↔ PartIs part.now count (bit_intervals self.entry.words.now self.entry.cells self.entry.height) }
     {
-        let mut i = 0;
+        let mut met = 0;
         for q in 0..self.words.len() + 1 {
-            let Some(next) = same_ends(part, i, self.changes(q), first_cell(q), self.height) else {
+            let Some(next) = same_ends(part, met, self.changes(q), first_cell(q), self.height)
+            else {
                 return false;
             };
-            i = next;
+            met = next;
         }
-        i / 2 == count && zeros(&part[2 * i..])
+        met / 2 == count && zeros(&part[2 * met..])
     }
 }
 

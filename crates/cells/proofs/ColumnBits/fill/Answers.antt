@@ -6,13 +6,13 @@ use Rattle.cells.proofs.ColumnBits.fill.Goals as goal
 pub loop-q-init : goal.loop-q-init
 loop-q-init c = filling_start _ _ _ _ c.requires
 
-pub write_ends-i-requires : goal.write_ends-i-requires
-write_ends-i-requires c =
+pub write_ends-written-requires : goal.write_ends-written-requires
+write_ends-written-requires c =
     let s = c.args.self in
     (filling_room _ _ _ s.fillable c.loop-q.invariant _ _ c.first_cell.ensures c.changes.ensures (omega arith), omega (arith, s.fillable.short))
 
 pub loop-q-preserved : goal.loop-q-preserved
-loop-q-preserved c = filling_next _ _ _ c.args.self.fillable c.loop-q.invariant _ _ c.first_cell.ensures c.changes.ensures _ _ c.write_ends-i.ensures
+loop-q-preserved c = filling_next _ _ _ c.args.self.fillable c.loop-q.invariant _ _ c.first_cell.ensures c.changes.ensures _ _ c.write_ends-written.ensures
 
 pub returns : goal.returns
 returns c = filling_end _ _ _ c.args.self.fillable c.loop-q.invariant (omega arith)

@@ -3,4 +3,4 @@ use Rattle.cells.specs.Laws.Writes.{Filling}
 use Rattle.cells.proofs.ColumnBits.fill.Given as goal
 
 abbrev pub invariant-loop-q : goal.invariant-loop-q
-invariant-loop-q l = Filling l.self.words.now l.self.cells l.self.height l.part l.i l.q
+invariant-loop-q l = Filling l.self.words.now l.self.cells l.self.height l.part l.written l.q

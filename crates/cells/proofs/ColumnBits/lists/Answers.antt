@@ -22,8 +22,8 @@ returns-in_default c = (
   λ x. absurd (listing_differs _ _ _ c.args.self.fillable _ c.requires c.loop-q.invariant _ _ c.first_cell.ensures c.changes.ensures (omega arith) c.in_default.ensures _ x),
 )
 
-pub overflow_mul-i : goal.overflow_mul-i
-overflow_mul-i c = omega (arith, listing_few _ _ _ c.args.self.fillable _ c.requires c.loop-q.invariant (omega arith))
+pub overflow_mul-met : goal.overflow_mul-met
+overflow_mul-met c = omega (arith, listing_few _ _ _ c.args.self.fillable _ c.requires c.loop-q.invariant (omega arith))
 
 pub slice_bounds-zeros-count : goal.slice_bounds-zeros-count
 slice_bounds-zeros-count c = omega (arith, listing_few _ _ _ c.args.self.fillable _ c.requires c.loop-q.invariant (omega arith), c.requires)
@@ -31,17 +31,17 @@ slice_bounds-zeros-count c = omega (arith, listing_few _ _ _ c.args.self.fillabl
 pub slice_bounds-zeros-start : goal.slice_bounds-zeros-start
 slice_bounds-zeros-start c = omega (arith, listing_few _ _ _ c.args.self.fillable _ c.requires c.loop-q.invariant (omega arith), c.requires)
 
-pub returns-then-i-count : goal.returns-then-i-count
-returns-then-i-count c =
+pub returns-then-met-count : goal.returns-then-met-count
+returns-then-met-count c =
     let f = c.args.self.fillable in
     let l = c.loop-q.invariant in
     let rest = zeros_decided _ _ _ _ (rw c.requires at c.zeros.ensures) in (
-      λ t. listing_yes _ _ _ f _ c.requires l (omega arith) (λ j. omega (arith, c.type_inv.part j)) _ c.if-i-count.true (rest.0 t),
+      λ t. listing_yes _ _ _ f _ c.requires l (omega arith) (λ j. omega (arith, c.type_inv.part j)) _ c.if-met-count.true (rest.0 t),
       λ x. rest.1 (listing_no _ _ _ f _ c.requires l (omega arith) _ x).1,
     )
 
-pub returns-else-i-count : goal.returns-else-i-count
-returns-else-i-count c = (
-  λ t. absurd (c.if-i-count.false (eqb-true _ _ t)),
-  λ x. absurd (c.if-i-count.false (listing_no _ _ _ c.args.self.fillable _ c.requires c.loop-q.invariant (omega arith) _ x).0),
+pub returns-else-met-count : goal.returns-else-met-count
+returns-else-met-count c = (
+  λ t. absurd (c.if-met-count.false (eqb-true _ _ t)),
+  λ x. absurd (c.if-met-count.false (listing_no _ _ _ c.args.self.fillable _ c.requires c.loop-q.invariant (omega arith) _ x).0),
 )

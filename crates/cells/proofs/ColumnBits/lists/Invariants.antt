@@ -3,4 +3,4 @@ use Rattle.cells.specs.Laws.Compares.{Listing}
 use Rattle.cells.proofs.ColumnBits.lists.Given as goal
 
 abbrev pub invariant-loop-q : goal.invariant-loop-q
-invariant-loop-q l = Listing l.self.words.now l.self.cells l.self.height l.part l.i l.q
+invariant-loop-q l = Listing l.self.words.now l.self.cells l.self.height l.part l.met l.q
