@@ -36,6 +36,7 @@ abbrev pub differs : Bool → Bool → Bool
 differs true b = not b
 differs false b = b
 
+-- whether a test changes at k: it is another there than one below
 abbrev pub change : (ℕ → Bool) → ℕ → Bool
 change f k = differs (f k) (one_below f k)
 
@@ -65,7 +66,7 @@ abbrev pub coded : List ℕ → List ℕ
 coded [] = []
 coded (k ∷ L) = k % 256 ∷ k / 256 % 256 ∷ coded L
 
--- each is a two-byte number when times h
+-- each, times h, is a two-byte number
 abbrev pub SmallEnds : ℕ → List ℕ → Type 0
 SmallEnds h [] = Unit {0}
 SmallEnds h (k ∷ L) = (h * k < words) × SmallEnds h L
@@ -74,18 +75,18 @@ SmallEnds h (k ∷ L) = (h * k < words) × SmallEnds h L
 unfoldable pub numbered : ℕ → List ℕ → List ℕ
 numbered h L = padded column_size (coded (map (λ k. h * k) L))
 
--- the two-byte numbers of the part p from number i on are those of L, times h
+-- L, times h, are the next numbers of the part p, from number i on; what follows them is not said
 abbrev pub Agree : ℕ → List ℕ → ℕ → List ℕ → Type 0
 Agree h p i [] = Unit {0}
 Agree h p i (k ∷ L) = (word p (2 * i) ≡ h * k) × Agree h p (suc i) L
 
--- there is room in the part p for the numbers L from number i on
+-- there is room in the part p for the numbers L from number i on, and each, times h, is a two-byte number
 pub record HasRoom (h : ℕ) (p : List ℕ) (i : ℕ) (L : List ℕ) : Type 0 where
   pub size : length p ≡ column_size
   pub few : i + length L ≤ 2 * max_intervals
   pub small : SmallEnds h L
 
--- they were compared there: n is the number of the next, if all are those that p has
+-- they were compared with those of p: r is none where one of them is not what p has there, and else the number of the next
 abbrev pub Compared : ℕ → List ℕ → ℕ → List ℕ → Option ℕ → Type 0
 Compared h p i L r = MatchOption r (Agree h p i L → ⊥) (λ n. Agree h p i L × (n ≡ i + length L))
 
@@ -99,8 +100,9 @@ pub record PartIs (p : List ℕ) (n : ℕ) (L : List Interval) : Type 0 where
   pub bytes_are : p ≡ column_part L
   pub count_is : n ≡ length L
 
--- a column whose part can be written: the words hold its n cells, and the ends, h apart, are two-byte numbers
-pub record Fillable (ws : List ℕ) (n h : ℕ) : Type 0 where
+-- a column whose intervals a part has room for: there are few enough cells, the words hold them, and h times their number, so each end, is a two-byte
+-- number
+pub record Listable (ws : List ℕ) (n h : ℕ) : Type 0 where
   pub few : n ≤ 2 * max_intervals
   pub room : n ≤ word_bits * length ws
   pub short : length ws ≤ most_words

@@ -6,7 +6,7 @@ ghost use Rattle.model.specs.Limits.{max_intervals, column_size, words as two_by
 ghost use Rattle.model.specs.Bounded.{sum_below};
 ghost use Rattle.model.specs.Record.{column_part};
 ghost use Rattle.cells.specs.Bits.{most_words, word_bits, is_set, cell_bit, between, Shows, RunIn, Marked};
-ghost use Rattle.cells.specs.Ends.{Fillable, one_below, change, spots, free_below, bit_intervals, HasRoom, Compared, EndsWritten, PartIs};
+ghost use Rattle.cells.specs.Ends.{Listable, one_below, change, spots, free_below, bit_intervals, HasRoom, Compared, EndsWritten, PartIs};
 
 use std::ops::Range;
 use words::{get16, put16, zeros};
@@ -17,7 +17,7 @@ pub struct ColumnBits<'a> {
     pub words: &'a [u64],
     pub cells: u32,
     pub height: u32,
-    ghost fillable: { Fillable words.now cells height },
+    ghost listable: { Listable words.now cells height },
 }
 
 // The lowest n bits.
@@ -39,8 +39,10 @@ fn span(base: u32, run: &Range<u32>) -> u64
     low(run.end.saturating_sub(base)) & !low(run.start.saturating_sub(base))
 }
 
-// Marks the cells of a run, word by word, and says whether none of them was held. By the word's number, which says what its first cell is.
+// Marks the cells of a run, word by word, and says whether none of them was held. By the word's number, which says what its first cell is. Apart from
+// the code of `mark`, which would have fewer registers with a loop in it that hardly ever runs.
 #[tactic(auto, using(crate::specs::Laws::Marks::marking_start, crate::specs::Laws::Marks::marking_next, crate::specs::Laws::Marks::marking_end))]
+#[inline(never)]
 fn mark_words(words: &mut [u64], run: Range<u32>) -> bool
     requires { RunIn words.old run.start run.end }
     ensures { Marked words.old run.start run.end words.new result }

@@ -185,7 +185,7 @@ impl Tally {
     }
 }
 
-// MODEL 11.2 and 11.3: the score of a position at which the task fits.
+// MODEL 11.2 and 11.3: the score of a position at which the task fits. What it leaves in `homes` no clause says: hints, and any will do.
 #[tactic(auto, using(model::proofs::Laws::Tasks::sized_to))]
 pub fn score_at(record: SoundRecord, task: Task, at: Position, homes: &mut Homes) -> Rating
     requires { fits (device_of «record».bytes.now) (book_of «record».bytes.now) task.bytes.now at.column at.bottom ≡ true }

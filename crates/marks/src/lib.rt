@@ -1,7 +1,7 @@
 // The blocks of a task, marked in the bits of a card's columns.
 #![tactic(auto)]
 
-ghost use Rattle.std.specs.Prelude.{◌≡◌, ◌+◌, ◌*◌, ◌<◌, ◌↔◌, true, length, replicate, IsTrue, MatchOption};
+ghost use Rattle.std.specs.Prelude.{◌≡◌, ◌+◌, ◌*◌, ◌<◌, true, length, replicate, MatchOption};
 ghost use Rattle.model.specs.Limits.{max_columns};
 ghost use Rattle.model.specs.Blocks.{Solid};
 ghost use Rattle.task.specs.Blocks.{seen};
@@ -15,7 +15,7 @@ use std::ops::Range;
 use task::{Block, Position, Task};
 
 // The words of a column: a bit for each cell that it may have. And those of all columns.
-const COLUMN_WORDS: usize = MAX_ROWS as usize / 64; // `as`: in a constant std has no other form
+const COLUMN_WORDS: usize = (MAX_ROWS / u64::BITS) as usize; // `as`: in a constant std has no other form
 
 const ALL_WORDS: usize = COLUMN_WORDS * MAX_COLUMNS;
 

@@ -1,5 +1,6 @@
 -- What is proved of the model's definitions, from the tools up.
 pub mod Bounded
+pub mod Each
 pub mod Members
 -- lists and bytes
 pub mod Changed

@@ -1,7 +1,6 @@
 -- What is proved of devices, entries and columns, and of a record that is cleared, entered and searched.
 pub mod Device
 pub mod Clear
-pub mod Each
 -- entries
 pub mod Said
 pub mod Entries

@@ -7,7 +7,7 @@ use Rattle.model.specs.Sound.{within, block_count, count_of, sound}
 use Rattle.model.specs.InPlace.{no_entry}
 use Rattle.model.proofs.Laws.Clauses.{Zero}
 use Rattle.cells.specs.Ends.{PartIs}
-use Rattle.cells.specs.Laws.Book.{Shown}
+use Rattle.cells.specs.Shown.{Shown}
 use Rattle.record.specs.Entries.{entry_of}
 use Rattle.marks.specs.Marks.{words_of}
 
@@ -16,13 +16,7 @@ unfoldable pub prior : ℕ → Book → ℕ → ℕ
 prior m b zero = m
 prior m b (suc j) = (get_or b j no_entry).number
 
--- MODEL 9.3 and 9.4: entry j of r has a number that rises, and 1 to `max_blocks` blocks
-pub record Passes (r : List ℕ) (j : ℕ) : Type 0 where
-  pub rises : prior 0 (book_of r) j < (entry_of r j).number
-  pub some_blocks : 1 ≤ block_count r j
-  pub few_blocks : block_count r j ≤ max_blocks
-
--- MODEL 9.8: the unused bytes of entry i, which has blocks, are 0
+-- MODEL 9.8: the bytes of running entry i behind its last block are 0
 abbrev pub RestZero : List ℕ → ℕ → Type 0
 RestZero r i = Zero r (entry_at i + blocks_at + block_size * block_count r i) (entry_at i + entry_size)
 
@@ -34,7 +28,7 @@ pub record TasksHeld (r H : List ℕ) (j : ℕ) : Type 0 where
   pub some_blocks : (i : ℕ) → i < j → 1 ≤ block_count r i
   pub few_blocks : (i : ℕ) → i < j → block_count r i ≤ max_blocks
 
--- MODEL 9.7: column c lists the free intervals of r's book
+-- MODEL 9.7, and 9.8 for the places behind: column c lists the free intervals of r's book
 abbrev pub ColumnOk : List ℕ → ℕ → Type 0
 ColumnOk r c = PartIs (part r (column_at c) column_size) (count_of r c) (intervals (device_of r) (book_of r) c)
 
@@ -42,7 +36,8 @@ ColumnOk r c = PartIs (part r (column_at c) column_size) (count_of r c) (interva
 abbrev pub ColumnsOk : List ℕ → ℕ → Type 0
 ColumnsOk r n = (c : ℕ) → c < n → ColumnOk r c
 
--- MODEL 9.8: the bytes behind the kinds, the counts, the parts and the entries that are in use are 0
+-- MODEL 9.8: the bytes behind the kinds, the counts, the parts and the entries that are in use are 0 (of the rest of a part `ColumnOk` speaks, of that
+-- of an entry `RestZero`)
 pub record Unused (r : List ℕ) : Type 0 where
   pub kinds : Zero r (kinds_at + get_or r columns_at 0) counts_at
   pub counts : Zero r (counts_at + get_or r columns_at 0) intervals_at

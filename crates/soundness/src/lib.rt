@@ -2,11 +2,11 @@
 // the clear bits of each column are compared with its intervals.
 #![tactic(auto)]
 
-ghost use Rattle.std.specs.Prelude.{◌≡◌, ◌≢◌, ◌↔◌, ◌+◌, ◌≤◌, ◌<◌, IsTrue, IfOk, IsErrOf, MatchOption, length, get_or, replicate, true, false, ltb};
-ghost use Rattle.model.specs.Limits.{max_columns, max_running, record_size, columns_at, running_at, column_size};
+ghost use Rattle.std.specs.Prelude.{◌≡◌, ◌≢◌, ◌↔◌, ◌+◌, ◌≤◌, ◌<◌, IsTrue, IfOk, IsErrOf, MatchOption, length, get_or, true, false, ltb};
+ghost use Rattle.model.specs.Limits.{max_columns, max_running, record_size, columns_at, running_at};
 ghost use Rattle.model.specs.Book.{intervals};
-ghost use Rattle.model.specs.Record.{part, column_at, device_of, book_of};
-ghost use Rattle.model.specs.Sound.{count_of, sound};
+ghost use Rattle.model.specs.Record.{device_of, book_of};
+ghost use Rattle.model.specs.Sound.{sound};
 ghost use Rattle.model.proofs.Laws.Clauses.{Zero};
 ghost use Rattle.model.proofs.Laws.WriteBack.{Bytes};
 ghost use Rattle.cells.specs.Ends.{bit_intervals};
@@ -26,7 +26,7 @@ use record::device::Device;
 use std::ops::Range;
 use words::zeros;
 
-// MODEL 9.1 to 9.3: bytes that have the length of a record, say a device, and have no more entries than fit.
+// MODEL 9.1, 9.2, and of 9.3 the number of tasks: bytes that have the length of a record, say a device, and have no more entries than fit.
 #[derive(Clone, Copy)]
 struct Legible<'a> {
     bytes: &'a [u8; RECORD_SIZE],
@@ -96,8 +96,8 @@ impl<'a> Legible<'a> {
         EntryBytes { bytes, j: j - 1 }.number() < number
     }
 
-    // MODEL 9.3 to 9.6: marks the cells of running entry j, and says whether it is one of a sound record. Its blocks are read where they stand
-    // (MODEL 21.5).
+    // MODEL 9.3 to 9.6: marks the cells of running entry j, and says whether it may be one of a sound record: where not, the record is not sound.
+    // Its blocks are read where they stand (MODEL 21.5).
     #[tactic(auto, using(crate::specs::Laws::Entries::entry_position))]
     fn mark_entry(&self, held: &mut HeldCells, j: usize) -> bool
         requires runs { j < get_or self.now.bytes.now running_at 0 }
@@ -119,7 +119,9 @@ impl<'a> Legible<'a> {
         held.mark_task(self.device, entry.task, entry.at)
     }
 
-    // The same for all running entries, up to the first that is not one of a sound record. By a loop, as `mark_task` is.
+    // The same for all running entries, up to the first that is not one of a sound record. By a loop, as `mark_task` is; and apart from the rest of the
+    // check, since it is the longest part of it and needs the registers.
+    #[inline(never)]
     fn mark_entries(&self, held: &mut HeldCells) -> bool
         requires { TasksHeld self.now.bytes.now held.old.words 0 }
         ensures { Judged self.now.bytes.now (TasksHeld self.now.bytes.now held.new.words (get_or self.now.bytes.now running_at 0)) result }

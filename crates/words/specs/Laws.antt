@@ -1,3 +1,2 @@
--- What is proved of slices that are compared, and tested for zeros.
-pub mod Same
+-- What is proved of slices that are tested for zeros.
 pub mod Zeros

@@ -169,7 +169,8 @@ mod tests {
                 marked.mark(held_cell, held_cell + 1);
                 for (from, to) in runs(MAX_CELLS + 2) {
                     let is_free = to <= cells && !(from..to).contains(&held_cell);
-                    assert_eq!(marked.clone().mark(from, to), is_free, "{from} to {to}");
+                    let mut again = marked;
+                    assert_eq!(again.mark(from, to), is_free, "{from} to {to}");
                 }
             }
         }
@@ -205,8 +206,8 @@ mod tests {
     fn a_column_lists_nothing_else() {
         let few = cut_out(128, 2, &[(3, 5), (60, 70), (120, 121)]);
         let every_other: Vec<_> = (0..128).step_by(2).map(|k| (k, k + 1)).collect();
-        for (held, part, count) in [few, cut_out(128, 2, &every_other), cut_out(0, 5, &[])] {
-            let height = 2;
+        let height = 2;
+        for (held, part, count) in [few, cut_out(128, 2, &every_other), cut_out(0, 2, &[])] {
             for other in (0..256).filter(|&other| other != count) {
                 assert!(!held.lists(&part, other, height), "{other} intervals");
             }

@@ -26,19 +26,19 @@ struct Best {
 }
 
 /// The search for the best position of a task.
-struct Choice<'a> {
+struct Chooser<'a> {
     record: &'a Record,
     task: &'a Task,
     /// For each block, the number of the interval in which it was last found, in whichever column: as the bottom
     /// rises, it is found there or a little higher.
-    stands: [usize; MAX_BLOCKS],
+    homes: [usize; MAX_BLOCKS],
     best: Option<Best>,
 }
 
 /// The chosen column and bottom; none where no position fits.
 pub fn chosen(record: &Record, task: &Task) -> Option<(usize, i32)> {
     let mut search = Search::START;
-    let mut choice = Choice::of(record, task);
+    let mut choice = Chooser::of(record, task);
     for column in 0..columns(record) {
         let ranges = search.column_ranges(record, task, column);
         for &range in ranges.all() {
@@ -48,13 +48,13 @@ pub fn chosen(record: &Record, task: &Task) -> Option<(usize, i32)> {
     choice.best.map(|best| (best.column, best.bottom))
 }
 
-impl Choice<'_> {
+impl Chooser<'_> {
     /// A search before its first column.
-    fn of<'a>(record: &'a Record, task: &'a Task) -> Choice<'a> {
-        Choice {
+    fn of<'a>(record: &'a Record, task: &'a Task) -> Chooser<'a> {
+        Chooser {
             record,
             task,
-            stands: [0; MAX_BLOCKS],
+            homes: [0; MAX_BLOCKS],
             best: None,
         }
     }
@@ -94,7 +94,7 @@ impl Choice<'_> {
             room: u32::MAX,
         };
         let mut previous: Option<(usize, Interval)> = None;
-        for (block, stand) in self.task.blocks().iter().zip(&mut self.stands) {
+        for (block, near) in self.task.blocks().iter().zip(&mut self.homes) {
             let bottom = (bottom + block.bottom()) as u32;
             let top = bottom + block.size();
             let here = column + block.column();
@@ -106,8 +106,8 @@ impl Choice<'_> {
                 None => {
                     // The first of them counts the height, and the piece below: between two blocks it
                     // is the piece above the lower one.
-                    let (number, holder) = home(self.record, here, *stand, bottom, top)?;
-                    *stand = number;
+                    let (number, holder) = home(self.record, here, *near, bottom, top)?;
+                    *near = number;
                     score.pieces += u32::from(holder.bottom < bottom);
                     score.stretch += holder.top - holder.bottom;
                     holder
@@ -123,7 +123,7 @@ impl Choice<'_> {
 
 #[cfg(test)]
 mod tests {
-    use super::Choice;
+    use super::Chooser;
     use crate::calls::{checked, new, place};
     use crate::layout::RECORD_SIZE;
     use crate::task::Task;
@@ -142,7 +142,7 @@ mod tests {
             assert_eq!(place(&mut record, &cell, number, 0, bottom), 0);
         }
         let task = Task::from_bytes(task)?;
-        let score = Choice::of(checked(&record).ok()?, &task).score(0, bottom)?;
+        let score = Chooser::of(checked(&record).ok()?, &task).score(0, bottom)?;
         Some((score.pieces, score.stretch))
     }
 
@@ -163,11 +163,11 @@ mod tests {
         assert_eq!(place(&mut record, &cell, 1, 0, 4), 0);
         let task = Task::from_bytes(&cell).expect("one cell");
         let record = checked(&record).expect("a record of calls");
-        let mut choice = Choice::of(record, &task);
+        let mut choice = Chooser::of(record, &task);
         // Free are 0–4 and 6–10. Upwards the block's interval is found from the last one on, and downwards from the lowest.
-        for (bottom, stretch, stand) in [(0, 4, 0), (6, 4, 1), (8, 4, 1), (2, 4, 0)] {
+        for (bottom, stretch, near) in [(0, 4, 0), (6, 4, 1), (8, 4, 1), (2, 4, 0)] {
             let score = choice.score(0, bottom).expect("it fits");
-            assert_eq!((score.stretch, choice.stands[0]), (stretch, stand));
+            assert_eq!((score.stretch, choice.homes[0]), (stretch, near));
         }
     }
 

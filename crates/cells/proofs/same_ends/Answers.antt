@@ -1,4 +1,4 @@
--- Answers of `cells::same_ends`.
+-- `cells::same_ends` meets its contract. Assumes nothing.
 use Rattle.std.proofs.Common.{sym, ◌∙◌}
 use native.Mathlib.Omega.{arith}
 use Rattle.cells.specs.Laws.Walks.{left_room, left_small}

@@ -1,4 +1,4 @@
--- Answers of `cells::write_ends`.
+-- `cells::write_ends` meets its contract. Assumes nothing.
 use native.Mathlib.Omega.{arith}
 use Rattle.cells.specs.Laws.Walks.{left_room, left_small}
 use Rattle.cells.specs.Laws.Writes.{writing_next, writing_end}

@@ -22,6 +22,7 @@ use Rattle.model.proofs.Laws.Split.{neither}
 use Rattle.model.proofs.Laws.Cells.{whole_cells}
 use Rattle.cells.specs.Bits.{cell_bit, between, Marked}
 use Rattle.cells.specs.Ends.{is_free, bit_intervals}
+use Rattle.cells.specs.Shown.{Shown, held_with}
 
 -- ---- half rows and cells
 
@@ -42,10 +43,6 @@ module _ (h k i : ℕ) (l : i < h) where
 
 -- ---- the bits of all columns
 
--- bit k of column c's words is f at every half row of cell k
-abbrev pub Shown : Device → (ℕ → ℕ → Bool) → (ℕ → List ℕ) → Type 0
-Shown d f ws = (c k i : ℕ) → c < columns d → k < cells d c → i < height (kind d c) → cell_bit (ws c) k ≡ f c (height (kind d c) * k + i)
-
 -- THEOREM: where the bits are the cells that the book holds, their free runs are the book's intervals
 pub shown_intervals : (d : Device) (b : Book) (ws : ℕ → List ℕ) → Shown d (held b) ws → (c : ℕ) → c < columns d → intervals d b c ≡ bit_intervals (ws c) (cells d c) (height (kind d c))
 unfolding intervals free bit_intervals is_free top top_in cells
@@ -55,10 +52,6 @@ shown_intervals d b ws s c q =
     rw (lt-ltb c (columns d) q, ltb_cell (height (kind d c)) k i m (cells d c), lt-ltb k (cells d c) l) (ap not (sym (s c k i q l m))))
 
 -- ---- a task's blocks, one after the other
-
--- held by the book, or by one of the first j blocks of B
-abbrev pub held_with : Book → Placed → ℕ → ℕ → ℕ → Bool
-held_with b B j c z = held b c z || any_below j (covers B c z)
 
 pub shown_none : (d : Device) (b : Book) (B : Placed) (ws : ℕ → List ℕ) → Shown d (held b) ws → Shown d (held_with b B 0) ws
 unfolding any_below

@@ -12,7 +12,7 @@ use Rattle.model.proofs.Laws.Slots.{get_d_padded}
 use Rattle.model.proofs.Laws.Clauses.{Zero}
 use Rattle.model.proofs.Laws.WriteBack.{Bytes}
 use Rattle.cells.specs.Bits.{word_bits, Shows}
-use Rattle.cells.specs.Ends.{Fillable, hits, spots, change, ends, is_free, free_below, bit_intervals, coded, SmallEnds, numbered, Agree, HasRoom, PartIs}
+use Rattle.cells.specs.Ends.{Listable, hits, spots, change, ends, is_free, free_below, bit_intervals, coded, SmallEnds, numbered, Agree, HasRoom, PartIs}
 use Rattle.cells.specs.Laws.Spots.{cleared}
 use Rattle.cells.specs.Laws.Coded.{length_coded, ends_length, column_numbered, numbered_length}
 use Rattle.cells.specs.Laws.Ends.{small_ends}
@@ -111,7 +111,7 @@ pub listing_start : (ws : List ℕ) (n h : ℕ) (p : List ℕ) → Listing ws n 
 unfolding hits
 listing_start ws n h p = record { agreed = tt; count = refl }
 
-module _ (ws : List ℕ) (n h : ℕ) (c : Fillable ws n h) (p : List ℕ) (size : length p ≡ column_size) where
+module _ (ws : List ℕ) (n h : ℕ) (c : Listable ws n h) (p : List ℕ) (size : length p ≡ column_size) where
   -- a part of the free intervals has their ends, and zeros behind them
   part_agrees : (m : ℕ) → PartIs p m (bit_intervals ws n h) → Agree h p 0 (ends (runs_of ws n h c)) × Zero p (2 * length (ends (runs_of ws n h c))) column_size
   unfolding bit_intervals
@@ -156,7 +156,7 @@ module _ (ws : List ℕ) (n h : ℕ) (c : Fillable ws n h) (p : List ℕ) (size 
       pub listing_few : i ≤ 2 * max_intervals
       listing_few = omega (arith, counted, runs_length ws n h c, few ws n h c)
 
-      -- THEOREM: where all changes were met it is, if its count is right, with zeros behind them
+      -- THEOREM: where all changes were met, the part is that of the free intervals, if the count is right and zeros stand behind
       pub listing_yes : Bytes p → (m : ℕ) → i / 2 ≡ m → Zero p (2 * i) column_size → PartIs p m (bit_intervals ws n h)
       unfolding bit_intervals
       listing_yes b m e z =

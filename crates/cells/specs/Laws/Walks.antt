@@ -11,7 +11,7 @@ use Rattle.runs.specs.Laws.Runs.{in_step_one, runs_count}
 use Rattle.model.specs.Limits.{max_intervals, column_size, words}
 use Rattle.model.proofs.Laws.Cells.{scaled}
 use Rattle.cells.specs.Bits.{word_bits, Shows}
-use Rattle.cells.specs.Ends.{Fillable, hits, spots, change, ends, is_free, free_below, bit_intervals, HasRoom}
+use Rattle.cells.specs.Ends.{Listable, hits, spots, change, ends, is_free, free_below, bit_intervals, HasRoom}
 use Rattle.cells.specs.Laws.Spots.{cleared, spots_none, spots_next, spots_hits, hits_append}
 use Rattle.cells.specs.Laws.Coded.{ends_length, small_append}
 use Rattle.cells.specs.Laws.Ends.{free_changes, small_ends}
@@ -62,7 +62,7 @@ word_ends ws n base t d =
     hits_append g 0 base word_bits ∙ ap (λ (l : List ℕ). hits g 0 base ++ l) (ap (λ (a : ℕ). hits g a word_bits) (zero-add base) ∙ sym (spots_hits g base word_bits t d))
 
 -- the free runs, by their ends
-module _ (ws : List ℕ) (n h : ℕ) (c : Fillable ws n h) where
+module _ (ws : List ℕ) (n h : ℕ) (c : Listable ws n h) where
   abbrev pub runs_of : List Interval
   runs_of = maximal_runs (is_free ws) n
 

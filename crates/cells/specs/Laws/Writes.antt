@@ -10,7 +10,7 @@ use Rattle.model.specs.Record.{bytes16, column_part}
 use Rattle.model.specs.Parts.{splice}
 use Rattle.model.proofs.Laws.Parts.{length_splice}
 use Rattle.cells.specs.Bits.{word_bits, Shows}
-use Rattle.cells.specs.Ends.{Fillable, hits, spots, change, ends, free_below, bit_intervals, numbered, HasRoom, EndsWritten, PartIs}
+use Rattle.cells.specs.Ends.{Listable, hits, spots, change, ends, free_below, bit_intervals, numbered, HasRoom, EndsWritten, PartIs}
 use Rattle.cells.specs.Laws.Spots.{cleared}
 use Rattle.cells.specs.Laws.Coded.{ends_length, column_numbered, numbered_push, numbered_length}
 use Rattle.cells.specs.Laws.Walks.{Left, left_start, left_none, left_count, next, left_room, left_next, word_ends, runs_of, all_ends, runs_length, word_room}
@@ -57,7 +57,7 @@ pub filling_start : (ws : List ℕ) (n h : ℕ) (p : List ℕ) → p ≡ column_
 unfolding hits
 filling_start ws n h p e = record { wrote = e ∙ column_numbered h []; count = refl }
 
-module _ (ws : List ℕ) (n h : ℕ) (c : Fillable ws n h) {p : List ℕ} {i q : ℕ} (w : Filling ws n h p i q) where
+module _ (ws : List ℕ) (n h : ℕ) (c : Listable ws n h) {p : List ℕ} {i q : ℕ} (w : Filling ws n h p i q) where
   filling_size : length p ≡ column_size
   filling_size = ap length w.wrote ∙ numbered_length h (hits (change (free_below ws n)) 0 (word_bits * q))
 

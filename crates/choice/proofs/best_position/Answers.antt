@@ -1,4 +1,4 @@
--- Answers of `choice::best_position`.
+-- `choice::best_position` meets its contract. Assumes nothing.
 use Rattle.std.proofs.Common.{arith}
 use Rattle.listing.specs.Laws.Column.{given_of}
 use Rattle.choice.specs.Laws.Columns.{best_none, chooses}

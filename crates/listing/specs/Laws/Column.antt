@@ -1,7 +1,6 @@
 -- MODEL 10.4: a task in one column of a sound record, what the walks need of the record, and the model's ranges at the end. Assumes nothing.
-use Rattle.std.specs.Prelude.{ℕ, ◌+◌, ◌*◌, ◌≤◌, ◌<◌, ◌≡◌, ◌↔◌, refl, Bool, true, false, MatchBool, List, [], map, length, All}
-use Rattle.std.proofs.Common.{sym, subst, arith, add-one, zero-add}
-use Rattle.std.proofs.lemmas.Bool.{false≢true}
+use Rattle.std.specs.Prelude.{ℕ, ◌+◌, ◌*◌, ◌≤◌, ◌<◌, ◌≡◌, refl, true, List, [], map, length, All}
+use Rattle.std.proofs.Common.{sym, subst, arith, add-one}
 use Rattle.std.proofs.Math.ListN.{get_or}
 use Rattle.runs.specs.Runs.{Run}
 use Rattle.runs.specs.Intervals.{Interval}

@@ -20,7 +20,8 @@ use Rattle.model.proofs.Laws.ReadBack.{get_d_in}
 use Rattle.model.specs.Parts.{splice}
 use Rattle.model.proofs.Laws.Parts.{part_splice, part_splice_below, part_splice_above}
 use Rattle.cells.specs.Bits.{cell_bit, RunIn, Marked}
-use Rattle.cells.specs.Laws.Book.{Shown, held_with, BlockAt, shown_none, shown_mark, shown_free, earlier_apart}
+use Rattle.cells.specs.Laws.Book.{BlockAt, shown_none, shown_mark, shown_free, earlier_apart}
+use Rattle.cells.specs.Shown.{Shown, held_with}
 use Rattle.marks.specs.Marks.{column_words, all_words, words_of, OnCells, FitsNowhere, BlockDue, BlockMarked, TaskMarked}
 
 -- a multiple of h, by its quotient

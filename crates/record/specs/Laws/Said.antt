@@ -50,7 +50,7 @@ module _ (r : List ℕ) (j : ℕ) (x : HasEntry r j) where
     blocks_length = rw (blocks_part r j) (length_part r (entry_at j + blocks_at) (block_size * block_count r j) (omega (arith, x.size, x.few, x.runs)))
 
 -- whole blocks, 1 to 32 of them
-pub sized_of : (t : List ℕ) (n : ℕ) → length t ≡ block_size * n → 1 ≤ n → n ≤ max_blocks → sized t ≡ true
+sized_of : (t : List ℕ) (n : ℕ) → length t ≡ block_size * n → 1 ≤ n → n ≤ max_blocks → sized t ≡ true
 unfolding sized
 sized_of t n e one most =
     rw (ne_eqb (length t) 0 (λ z. omega arith), le-leb (length t) (block_size * max_blocks) (omega arith)) (eq-eqb (length t % block_size) 0 (omega arith))
@@ -64,7 +64,7 @@ module _ (r : List ℕ) (j : ℕ) (x : HasEntry r j) (s : sound r ≡ true) wher
   pub count_sound : (1 ≤ block_count r j) × (block_count r j ≤ max_blocks)
   count_sound = let y = clauses_to r s in (y.some_blocks j x.runs, y.few_blocks j x.runs)
 
-  pub in_limits : Entry (device_of r) (entry_of r j)
+  in_limits : Entry (device_of r) (entry_of r j)
   in_limits = (limits_to (device_of r) (book_of r) (sound_within r s)).entries (entry_of r j) (get_d_in (book_of r) j no_entry (in_book r j x))
 
   pub sound_formed : well_formed (blocks_of r j) ≡ true

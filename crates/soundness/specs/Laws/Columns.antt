@@ -14,7 +14,7 @@ use Rattle.model.specs.Sound.{within, sound}
 use Rattle.model.proofs.Laws.Record.{record_column, record_count}
 use Rattle.model.proofs.Laws.WriteBack.{Bytes}
 use Rattle.model.proofs.Laws.Sound.{columns_said, running_said, sound_record}
-use Rattle.cells.specs.Ends.{Fillable, bit_intervals}
+use Rattle.cells.specs.Ends.{Listable, bit_intervals}
 use Rattle.cells.specs.Laws.Book.{shown_intervals}
 use Rattle.marks.specs.Marks.{column_words, words_of}
 use Rattle.marks.specs.Laws.Marks.{few_rows, few_cells}
@@ -55,9 +55,9 @@ module _ (r H : List ℕ) (m : TasksHeld r H (get_or r running_at 0)) where
       same_height : h ≡ height (kind (device_of r) c)
       same_height = rw kind_is at g
 
-      pub fillable : {w : List ℕ} → device_ok d ≡ true → length w ≡ column_words → Fillable w n h
+      pub listable : {w : List ℕ} → device_ok d ≡ true → length w ≡ column_words → Listable w n h
       unfolding cells cells_in
-      fillable ok l =
+      listable ok l =
           let m = rw e at ok in
           let b = few_cells (device_of r) m c in
           let u = mul-div-le (2 * (device_of r).rows) (height (kind (device_of r) c)) in

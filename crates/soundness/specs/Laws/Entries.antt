@@ -23,9 +23,9 @@ use Rattle.model.proofs.Laws.WriteBack.{Bytes}
 use Rattle.marks.specs.Marks.{EntryPosition, TaskMarked}
 use Rattle.record.specs.Entries.{entry_of, bytes_entry, HasEntry, HasTask}
 use Rattle.record.specs.Laws.Said.{number_said, in_book, entry_by_bytes, blocks_length}
-use Rattle.soundness.specs.Soundness.{Passes, RestZero, TasksHeld, Judged}
+use Rattle.soundness.specs.Soundness.{RestZero, TasksHeld, Judged}
 use Rattle.soundness.specs.Laws.Before.{prior_above, insert_last}
-use Rattle.soundness.specs.Laws.Tested.{sound_fits}
+use Rattle.soundness.specs.Laws.Tested.{Passes, sound_fits}
 
 small_word : (r : List ℕ) (i : ℕ) → Bytes r → word r i < words
 unfolding word

@@ -1,19 +1,26 @@
 -- MODEL 9.3 to 9.6: in a sound record every running task passes each test, so where one fails the record is not sound. Assumes nothing.
-use Rattle.std.specs.Prelude.{ℕ, suc, ◌+◌, ◌-◌, ◌≡◌, Bool, true, false, List, get_or, take, ltb}
+use Rattle.std.specs.Prelude.{ℕ, suc, ◌+◌, ◌-◌, ◌≤◌, ◌<◌, ◌≡◌, Bool, true, false, List, get_or, take, ltb}
 use Rattle.std.proofs.Common.{sym, ap, ◌∙◌, arith}
 use Rattle.runs.specs.Laws.Tests.{tests}
+use Rattle.model.specs.Limits.{max_blocks}
 use Rattle.model.specs.Tasks.{word}
 use Rattle.model.specs.Book.{fits}
 use Rattle.model.specs.Record.{entry_at, device_of, book_of}
-use Rattle.model.specs.Sound.{sound}
+use Rattle.model.specs.Sound.{block_count, sound}
 use Rattle.model.proofs.Laws.Bounded.{is_false}
 use Rattle.model.proofs.Laws.Limits.{limits_to}
 use Rattle.model.proofs.Laws.Tasks.{sized_to}
 use Rattle.model.proofs.Laws.Sound.{sound_within}
 use Rattle.record.specs.Entries.{entry_of, blocks_of, HasEntry, HasTask}
 use Rattle.record.specs.Laws.Said.{number_said, in_book, entry_by_bytes, blocks_length, blocks_sized, count_sound, sound_formed}
-use Rattle.soundness.specs.Soundness.{prior, Passes}
+use Rattle.soundness.specs.Soundness.{prior}
 use Rattle.soundness.specs.Laws.Before.{prior_below, fits_among}
+
+-- MODEL 9.3 and 9.4: entry j of r has a number that rises, and 1 to `max_blocks` blocks
+pub record Passes (r : List ℕ) (j : ℕ) : Type 0 where
+  pub rises : prior 0 (book_of r) j < (entry_of r j).number
+  pub some_blocks : 1 ≤ block_count r j
+  pub few_blocks : block_count r j ≤ max_blocks
 
 -- whether its number n rises, from its bytes and those of the entry before it
 module _ (r : List ℕ) (j n : ℕ) (x : HasEntry r j) (e : n ≡ word r (entry_at j)) where

@@ -10,14 +10,15 @@ mod paint;
 
 const KIB: usize = 1024;
 
-/// What `card_fragmentation` needs at most; its frames take 10,072 bytes, 8 KiB of them for the sets of intervals.
+/// What `card_fragmentation` needs at most; its frames take 9,664 bytes, 8 KiB of them for the sets of intervals.
 const FRAGMENTATION_STACK: usize = 16 * KIB;
 
-/// What every other call needs at most; the frames of choose, the deepest, take 2,504 bytes.
+/// What every other call needs at most; the frames of choose, the deepest, take 2,880 bytes.
 const CALL_STACK: usize = 8 * KIB;
 
-/// The bits of all columns' cells, which every call but new has on the stack while it checks the record.
-const BITS: usize = 64 * 128 / 8;
+/// The bytes of the bits of all columns' cells, which every call but new has on the stack while it checks the record:
+/// 64 columns of 128 cells.
+const BITS_SIZE: usize = 64 * 128 / 8;
 
 /// Left over for memcpy, memmove and memset, and for a dynamic linker that looks them up at their first call.
 const C_LIBRARY: usize = 4 * KIB;
@@ -62,7 +63,7 @@ fn no_call_writes_deeper_than_is_stated() {
         println!("{call}: wrote {deepest} bytes deep");
         assert!(deepest + C_LIBRARY <= stated(call), "{call}: {deepest}");
         // The check of a record clears the bits, which the paint has to show.
-        let seen = call == "card_new" || deepest > BITS;
+        let seen = call == "card_new" || deepest > BITS_SIZE;
         assert!(seen, "{call}: {deepest}");
     }
 }
@@ -83,8 +84,12 @@ fn the_documents_state_these_figures() {
     let readme = include_str!("../../../../README.md");
     for (name, text) in [("card.h", header), ("lib.rs", library), ("README", readme)] {
         for size in [CALL_STACK, FRAGMENTATION_STACK] {
-            let figure = format!("{} KiB", size / KIB);
-            assert!(text.contains(&figure), "{name} has no {figure}");
+            // After a blank, so that 8 is not seen in 128.
+            let figure = format!(" {} KiB", size / KIB);
+            assert!(
+                text.replace('\n', " ").contains(&figure),
+                "{name} has no{figure}"
+            );
         }
     }
 }

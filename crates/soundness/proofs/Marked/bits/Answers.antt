@@ -1,7 +1,7 @@
 -- `soundness::Marked::bits` meets its contract. Assumes nothing.
 use Rattle.std.proofs.Common.{sym, ◌∙◌}
 use Rattle.marks.specs.Laws.Marks.{kind_low}
-use Rattle.soundness.specs.Laws.Columns.{kind_read, fillable, bits_are}
+use Rattle.soundness.specs.Laws.Columns.{kind_read, listable, bits_are}
 use Rattle.soundness.proofs.Marked.bits.Goals as goal
 
 pub unwrap-kind-requires : goal.unwrap-kind-requires
@@ -11,7 +11,7 @@ pub invariant_of-result : goal.invariant_of-result
 invariant_of-result c =
     let s = c.args.self.now in
     let l = s.legible in
-    record { fillable = fillable _ _ s.tasks _ l.said c.requires _ (sym c.unwrap-kind.ensures ∙ c.try_from.ensures) c.cells.ensures c.height.ensures l.device.whole c.column.ensures.len }
+    record { listable = listable _ _ s.tasks _ l.said c.requires _ (sym c.unwrap-kind.ensures ∙ c.try_from.ensures) c.cells.ensures c.height.ensures l.device.whole c.column.ensures.len }
 
 pub returns : goal.returns
 returns c =

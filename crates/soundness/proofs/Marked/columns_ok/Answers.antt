@@ -2,7 +2,7 @@
 use Rattle.std.proofs.Common.{length, refl, rules}
 use Rattle.std.proofs.Math.Nat.{sub-zero}
 use Rattle.std.proofs.lemmas.Iterator.{YieldsList-from_range, cases_from_all}
-use Rattle.record.specs.Laws.Each.{range_each}
+use Rattle.model.proofs.Laws.Each.{range_each}
 use Rattle.soundness.specs.Soundness.{ColumnOk}
 use Rattle.soundness.proofs.Marked.columns_ok.Goals as goal
 

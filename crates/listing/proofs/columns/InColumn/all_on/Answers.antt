@@ -2,7 +2,7 @@
 use Rattle.std.proofs.Common.{refl, rules}
 use Rattle.std.proofs.Math.Nat.{sub-zero}
 use Rattle.std.proofs.lemmas.Iterator.{YieldsList-from_range, cases_from_all}
-use Rattle.record.specs.Laws.Each.{range_each}
+use Rattle.model.proofs.Laws.Each.{range_each}
 use Rattle.listing.specs.Columns.{On}
 use Rattle.listing.proofs.columns.InColumn.all_on.Goals as goal
 

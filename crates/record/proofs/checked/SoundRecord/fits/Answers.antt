@@ -7,7 +7,7 @@ use Rattle.model.specs.Bounded.{all_below}
 use Rattle.model.specs.Tasks.{block}
 use Rattle.model.specs.Book.{block_fits, fits}
 use Rattle.model.specs.Record.{device_of, book_of}
-use Rattle.record.specs.Laws.Each.{range_all}
+use Rattle.model.proofs.Laws.Each.{range_all}
 use Rattle.record.proofs.checked.SoundRecord.fits.Goals as goal
 use Rattle.record.proofs.checked.SoundRecord.fits.Goals.{then-at-columns, else-at-columns}
 
