@@ -39,10 +39,8 @@ fn span(base: u32, run: &Range<u32>) -> u64
     low(run.end.saturating_sub(base)) & !low(run.start.saturating_sub(base))
 }
 
-// Marks the cells of a run, word by word, and says whether none of them was held. By the word's number, which says what its first cell is. Apart from
-// the code of `mark`, which would have fewer registers with a loop in it that hardly ever runs.
+// Marks the cells of a run, word by word, and says whether none of them was held. By the word's number, which says what its first cell is.
 #[tactic(auto, using(crate::specs::Laws::Marks::marking_start, crate::specs::Laws::Marks::marking_next, crate::specs::Laws::Marks::marking_end))]
-#[inline(never)]
 fn mark_words(words: &mut [u64], run: Range<u32>) -> bool
     requires { RunIn words.old run.start run.end }
     ensures { Marked words.old run.start run.end words.new result }

@@ -119,9 +119,7 @@ impl<'a> Legible<'a> {
         held.mark_task(self.device, entry.task, entry.at)
     }
 
-    // The same for all running entries, up to the first that is not one of a sound record. By a loop, as `mark_task` is; and apart from the rest of the
-    // check, since it is the longest part of it and needs the registers.
-    #[inline(never)]
+    // The same for all running entries, up to the first that is not one of a sound record. By a loop, as `mark_task` is.
     fn mark_entries(&self, held: &mut HeldCells) -> bool
         requires { TasksHeld self.now.bytes.now held.old.words 0 }
         ensures { Judged self.now.bytes.now (TasksHeld self.now.bytes.now held.new.words (get_or self.now.bytes.now running_at 0)) result }
