@@ -10,10 +10,10 @@ mod paint;
 
 const KIB: usize = 1024;
 
-/// What `card_fragmentation` needs at most; its frames take 9,664 bytes, 8 KiB of them for the sets of intervals.
+/// What `card_fragmentation` needs at most; its frames take 9,568 bytes, 8 KiB of them for the sets of intervals.
 const FRAGMENTATION_STACK: usize = 16 * KIB;
 
-/// What every other call needs at most; the frames of choose, the deepest, take 2,880 bytes.
+/// What every other call needs at most; the frames of choose, the deepest, take 2,784 bytes.
 const CALL_STACK: usize = 8 * KIB;
 
 /// The bytes of the bits of all columns' cells, which every call but new has on the stack while it checks the record:
