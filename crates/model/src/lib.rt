@@ -27,7 +27,9 @@ pub const MAX_KIND: u8 = 2;
 
 pub const REACH: u32 = 256;
 
-// How many numbers two bytes hold.
+// How many numbers one byte holds, and two bytes.
+pub const BYTES: u32 = 256;
+
 pub const WORDS: u32 = 65536;
 
 // MODEL 8.1 and 8.2: the record's length, and where its parts stand.

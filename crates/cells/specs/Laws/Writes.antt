@@ -58,7 +58,7 @@ unfolding hits
 filling_start ws n h p e = record { wrote = e ∙ column_numbered h []; count = refl }
 
 module _ (ws : List ℕ) (n h : ℕ) (c : Listable ws n h) {p : List ℕ} {i q : ℕ} (w : Filling ws n h p i q) where
-  filling_size : length p ≡ column_size
+  pub filling_size : length p ≡ column_size
   filling_size = ap length w.wrote ∙ numbered_length h (hits (change (free_below ws n)) 0 (word_bits * q))
 
   module _ (t b : ℕ) (at : b ≡ word_bits * q) (d : Shows t (change (free_below ws n)) (word_bits * q)) where

@@ -1,8 +1,11 @@
 -- MODEL 11.1: the interval of a list that holds b..t, and what the search of `holder` finds. Assumes nothing.
-use Rattle.std.proofs.Common.{ℕ, zero, suc, ◌≤◌, ◌≡◌, refl, Bool, true, false, ◌&&◌, leb, Some, None, arith, inl, inr, List, [], ◌∷◌, map, ap, add-one, le-leb}
+use Rattle.std.proofs.Common.{ℕ, zero, suc, ◌≤◌, ◌≡◌, refl, Bool, true, false, ◌&&◌, leb, Some, None, ◌<◌, arith, inl, inr, List, [], ◌∷◌, map, ap, add-one, le-leb, lt-ltb, le-ltb}
+use borrow.Author.Tests.{lt-leb}
 use Rattle.std.specs.List.{find, range_with_len}
-use Rattle.runs.specs.Intervals.{Interval, interval, Holds}
+use Rattle.runs.specs.Intervals.{Interval, interval, Apart, Holds}
 use Rattle.runs.specs.Laws.Tests.{tests, cond_ind}
+use Rattle.runs.specs.Laws.Intervals.{named_ge, holds_of}
+use Rattle.model.specs.Homes.{holder}
 use Rattle.model.specs.Bounded.{In as Among}
 use Rattle.model.proofs.Laws.Bounded.{and_to, and_of, clash}
 use Rattle.column.specs.declared.Interval.{Interval as Read}
@@ -55,6 +58,15 @@ module _ (b t : ℕ) where
       rest : is_holding b t i ≡ false → (Holds b t L → ⊥) → Holds b t (i ∷ L) → ⊥
       rest n k (inl g) = holds_no b t i n g.0 g.1
       rest n k (inr g) = k g
+
+  -- on a canonical list it is the model's: the interval that holds half row b
+  pub holding_holder : (m : ℕ) (L : List Interval) → b < t → Apart m L → Holds b t L → held_in b t L ≡ Some (record { bottom = (holder L b).bottom; top = (holder L b).top })
+  unfolding held_in holder
+  holding_holder m [] p c h = absurd h
+  holding_holder m (i ∷ L) p c (inl h) = rw (le-leb i.bottom b h.0, le-leb t i.top h.1, lt-ltb b i.top (omega arith))
+  holding_holder m (i ∷ L) p c (inr h) =
+      let above : suc i.top ≤ b = named_ge (suc i.top) b L c.2 (holds_of b t p L h b (omega arith) p) in
+      rw (le-leb i.bottom b (omega arith), lt-leb t i.top (omega arith), le-ltb b i.top (omega arith)) (holding_holder (suc i.top) L p c.2 h)
 
 -- ---- `holder`: the first of the intervals read that holds b..t
 

@@ -41,9 +41,13 @@ ored_tells p = record {
 
 -- ---- a list in two parts, which may overlap
 
+-- the bytes that `zeros` tests together
+abbrev pub zeros_block : ℕ
+zeros_block = 32
+
 module _ (p : List ℕ) (n : ℕ) where
   -- a byte of the first n that is not 0
-  front_not : {r : Bool} → AllZero (take n p) r → r ≡ false → AllZero p false
+  pub front_not : {r : Bool} → AllZero (take n p) r → r ≡ false → AllZero p false
   front_not z f = record {
     yes = λ e. absurd (false≢true e);
     no = λ e h. z.no f (λ j. go h j (lt_or_ge j n));
