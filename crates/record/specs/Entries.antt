@@ -1,5 +1,6 @@
 -- MODEL 8.4: what the contracts of `entries` say. An entry is read, found by number, moved, put in and taken out. Assumes nothing.
 use Rattle.std.specs.Prelude.{ℕ, suc, ◌+◌, ◌-◌, ◌*◌, ◌≤◌, ◌<◌, ◌≡◌, true, eqb, Option, Some, None, List, ◌++◌, length, get_or, take, drop, position}
+use Rattle.std.specs.List.{CopiedTo, SameBelow, SameFrom}
 use Rattle.model.specs.Limits.{max_running, max_blocks, block_size, words, record_size, running_at, blocks_at}
 use Rattle.model.specs.Columns.{Device}
 use Rattle.model.specs.Tasks.{word, sized, well_formed}
@@ -55,6 +56,13 @@ found n b = position (λ (e : Running). eqb e.number n) b
 -- however r is read, s is read so too, but that its entries are moved by g
 pub record Moved (r s : List ℕ) (g : (ℕ → List ℕ) → ℕ → List ℕ) : Type 0 where
   pub moved : {h : List ℕ} {kinds counts : ℕ → ℕ} {columns entries : ℕ → List ℕ} → Reads r h kinds counts columns entries → Reads s h kinds counts columns (g entries)
+
+-- s is r, but that the m bytes of r from `src` on stand from `dest` on
+pub record Copied (r s : List ℕ) (src dest m : ℕ) : Type 0 where
+  pub size : length s ≡ length r
+  pub to : CopiedTo r s src dest m
+  pub below : SameBelow r s dest
+  pub above : SameFrom r s (dest + m)
 
 -- an entry of number n, at column p and bottom y, can be put in at place k of r
 pub record Enterable (r : List ℕ) (k n p y : ℕ) : Type 0 where

@@ -81,10 +81,20 @@ impl<'a> EntryBytes<'a> {
 
     // How many blocks it says that its task has, be they as many or not.
     pub fn count(self) -> usize
-        ensures { result ≡ block_count self.entry.bytes.now self.entry.j }
+        ensures count { result ≡ block_count self.entry.bytes.now self.entry.j }
+        ensures byte { result < 256 }
     {
         let bytes = self.bytes;
         usize::from(bytes[entry_at(self.j) + ENTRY_COUNT_AT])
+    }
+
+    // Where its blocks stand, as many as it says; more than an entry has room for reach behind it.
+    pub fn blocks_range(self) -> Range<usize>
+        ensures start { result.start ≡ entry_at self.entry.j + blocks_at }
+        ensures end { result.end ≡ entry_at self.entry.j + blocks_at + block_size * block_count self.entry.bytes.now self.entry.j }
+    {
+        let a = entry_at(self.j) + BLOCKS_AT;
+        a..a + BLOCK_SIZE * self.count()
     }
 
     // MODEL 21.5: its blocks, left where they stand in the record; none where they are more than an entry has room for.
@@ -92,13 +102,10 @@ impl<'a> EntryBytes<'a> {
         ensures { let r = self.entry.bytes.now in let n = block_count r self.entry.j in let a = entry_at self.entry.j + blocks_at in MatchOption result (max_blocks < n) (λ b. (n ≤ max_blocks) × (b.now ≡ slice_range r a (a + block_size * n))) }
     {
         let bytes = self.bytes;
-        let count = self.count();
-        if count > MAX_BLOCKS {
+        if self.count() > MAX_BLOCKS {
             return None;
         }
-        let a = entry_at(self.j) + BLOCKS_AT;
-        let e = a + BLOCK_SIZE * count;
-        Some(&bytes[a..e])
+        Some(&bytes[self.blocks_range()])
     }
 
     // Its task.

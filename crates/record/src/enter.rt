@@ -40,5 +40,5 @@ pub fn enter(record: &mut [u8], new: Entry<'_>)
     let k = SoundRecord { bytes: record }.place_of(new.number);
     let record = record.as_mut_array().unwrap();
     take_blocks(record, new.task, new.at);
-    insert_entry(record, k, new);
+    insert_entry(record, k, new.number, new.at, new.task.bytes);
 }

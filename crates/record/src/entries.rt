@@ -1,17 +1,19 @@
 // MODEL 8.4: the entries of the running tasks, found by number, put in and taken out.
-ghost use Rattle.std.specs.Prelude.{◌≡◌, true, ◌+◌, ◌≤◌, ◌<◌, length, get_or};
+ghost use Rattle.std.specs.Prelude.{◌≡◌, true, ◌+◌, ◌*◌, ◌≤◌, ◌<◌, ◌++◌, length, get_or, take, drop};
 ghost use Rattle.model.specs.Limits.{max_running, words, record_size, running_at, entry_size};
-ghost use Rattle.model.specs.Tasks.{word};
+ghost use Rattle.model.specs.Tasks.{word, sized};
 ghost use Rattle.model.specs.Record.{padded, entry_bytes, entry_at, book_of};
+ghost use Rattle.model.specs.Parts.{raised, lowered};
 ghost use Rattle.model.specs.InPlace.{place};
-ghost use Rattle.record.specs.Entries.{found, seen, Enterable, Entered, Removed};
+ghost use Rattle.record.specs.Entries.{found, Moved, Enterable, Entered, Removed};
 
-use crate::bytes::{Entry, EntryBytes, entry_at, running};
+use crate::bytes::{EntryBytes, entry_at, running};
 use crate::checked::SoundRecord;
 use model::{
-    BLOCKS_AT, ENTRY_BOTTOM_AT, ENTRY_COLUMN_AT, ENTRY_COUNT_AT, ENTRY_SIZE, RECORD_SIZE,
-    RUNNING_AT,
+    BLOCK_SIZE, BLOCKS_AT, ENTRY_BOTTOM_AT, ENTRY_COLUMN_AT, ENTRY_COUNT_AT, ENTRY_SIZE,
+    RECORD_SIZE, RUNNING_AT,
 };
+use task::Position;
 use words::put16;
 
 impl<'a> SoundRecord<'a> {
@@ -62,35 +64,96 @@ impl<'a> SoundRecord<'a> {
     }
 }
 
-// Writes a running task's entry.
-fn write_entry(part: &mut [u8], new: Entry<'_>)
-    requires part { length part.old ≡ entry_size }
-    requires number { new.number < words }
-    requires column { new.at.column < 256 }
-    requires bottom { new.at.bottom < words }
-    ensures { part.new ≡ padded entry_size (entry_bytes (seen new.entry)) }
+// Copies the first of two entries over the second.
+fn raise_entry(two: &mut [u8])
+    requires { length two.old ≡ 2 * entry_size }
+    ensures { two.new ≡ take entry_size two.old ++ take entry_size two.old }
 {
-    let blocks = new.task.bytes;
-    part.fill(0);
-    put16(part, 0, new.number);
-    part[ENTRY_COLUMN_AT] = new.at.column as u8; // `as`: the clause `column`
-    part[ENTRY_COUNT_AT] = new.task.count() as u8; // `as`: a task has 32 blocks at most
-    put16(part, ENTRY_BOTTOM_AT, new.at.bottom);
-    let e = BLOCKS_AT + blocks.len();
-    part[BLOCKS_AT..e].copy_from_slice(blocks);
+    let (lower, upper) = two.split_at_mut(ENTRY_SIZE);
+    upper.copy_from_slice(lower);
 }
 
-// Puts a running task's entry in at place k: those from k on move up by one.
-pub fn insert_entry(record: &mut [u8; RECORD_SIZE], k: usize, new: Entry<'_>)
-    requires { Enterable «record».old k new.number new.at.column new.at.bottom }
-    ensures { Entered «record».old «record».new k (seen new.entry) }
+// Copies the second of two entries over the first.
+fn lower_entry(two: &mut [u8])
+    requires { length two.old ≡ 2 * entry_size }
+    ensures { two.new ≡ drop entry_size two.old ++ drop entry_size two.old }
+{
+    let (lower, upper) = two.split_at_mut(ENTRY_SIZE);
+    lower.copy_from_slice(upper);
+}
+
+// Moves entries k to n - 1 up by one, the last one first. Entry by entry, and not by `copy_within`: of that the compiler makes `memmove`, and the
+// archive needs `memcpy` and `memset` alone.
+fn raise_entries(record: &mut [u8; RECORD_SIZE], k: usize, n: usize)
+    requires order { k ≤ n }
+    requires room { n < max_running }
+    ensures { Moved «record».old «record».new (raised k n) }
+{
+    for j in (k..n).rev() {
+        let a = entry_at(j);
+        raise_entry(&mut record[a..a + 2 * ENTRY_SIZE]);
+    }
+}
+
+// Moves entries k + 1 to n down by one, the first one first, and entry by entry as above.
+fn lower_entries(record: &mut [u8; RECORD_SIZE], k: usize, n: usize)
+    requires order { k ≤ n }
+    requires room { n < max_running }
+    ensures { Moved «record».old «record».new (lowered k n) }
+{
+    for j in k..n {
+        let a = entry_at(j);
+        lower_entry(&mut record[a..a + 2 * ENTRY_SIZE]);
+    }
+}
+
+// Copies bytes, one by one. Where the compiler can't see that the two stand apart, as with a record and a task that C lends, it makes `memmove` of
+// `copy_from_slice` too.
+fn copy(to: &mut [u8], from: &[u8])
+    requires { length to.old ≡ length from.now }
+    ensures { to.new ≡ from.now }
+{
+    for i in 0..from.len() {
+        to[i] = from[i];
+    }
+}
+
+// Writes a running task's entry.
+#[tactic(auto, using(model::proofs::Laws::Tasks::sized_to), unfolding(model::specs::Tasks::blocks))]
+fn write_entry(part: &mut [u8], number: u32, at: Position, task: &[u8])
+    requires part { length part.old ≡ entry_size }
+    requires number { number < words }
+    requires column { at.column < 256 }
+    requires bottom { at.bottom < words }
+    requires sized { sized task.now ≡ true }
+    ensures { part.new ≡ padded entry_size (entry_bytes (record { number = number; column = at.column; bottom = at.bottom; task = task.now })) }
+{
+    part.fill(0);
+    put16(part, 0, number);
+    part[ENTRY_COLUMN_AT] = at.column as u8; // `as`: the clause `column`
+    part[ENTRY_COUNT_AT] = (task.len() / BLOCK_SIZE) as u8; // `as`: the clause `sized`, 32 blocks at most
+    put16(part, ENTRY_BOTTOM_AT, at.bottom);
+    let e = BLOCKS_AT + task.len();
+    copy(&mut part[BLOCKS_AT..e], task);
+}
+
+// Puts a running task's entry in at place k: those from k on move up by one. Its bytes need only be as many as a task's, so they are no `Task`.
+pub fn insert_entry(
+    record: &mut [u8; RECORD_SIZE],
+    k: usize,
+    number: u32,
+    at: Position,
+    task: &[u8],
+)
+    requires enterable { Enterable «record».old k number at.column at.bottom }
+    requires sized { sized task.now ≡ true }
+    ensures { Entered «record».old «record».new k (record { number = number; column = at.column; bottom = at.bottom; task = task.now }) }
 {
     let n = running(record);
+    raise_entries(record, k, n);
     let a = entry_at(k);
     let e = a + ENTRY_SIZE;
-    let end = entry_at(n);
-    record.copy_within(a..end, e);
-    write_entry(&mut record[a..e], new);
+    write_entry(&mut record[a..e], number, at, task);
     record[RUNNING_AT] = (n + 1) as u8; // `as`: there was room for one more of 64
 }
 
@@ -101,10 +164,9 @@ pub fn remove_entry(record: &mut [u8; RECORD_SIZE], k: usize)
     ensures { Removed «record».old «record».new k }
 {
     let last = running(record) - 1;
-    let a = entry_at(k);
+    lower_entries(record, k, last);
     let z = entry_at(last);
     let end = z + ENTRY_SIZE;
-    record.copy_within(a + ENTRY_SIZE..end, a);
     record[z..end].fill(0);
     record[RUNNING_AT] = last as u8; // `as`: less than it was, 64 at most
 }

@@ -63,7 +63,7 @@
 //! The crate uses `core` alone, and `alloc` for [`Card::new`], which owns its
 //! bytes. Without the default feature `alloc` a card is made in bytes that are
 //! lent, by [`Card::new_in`] and [`Card::open`], and nothing else is missing.
-//! The archive needs `memcpy`, `memmove` and `memset`.
+//! The archive needs `memcpy` and `memset`.
 //!
 //! # Layers
 //!

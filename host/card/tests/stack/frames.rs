@@ -7,7 +7,7 @@ use std::process::Command;
 const WORD: usize = 8;
 
 /// What the archive takes from the C library. Their own stack is not counted.
-const OUTSIDE: [&str; 3] = ["memcpy", "memmove", "memset"];
+const OUTSIDE: [&str; 2] = ["memcpy", "memset"];
 
 /// What a function takes from the stack, and the functions that it calls.
 #[derive(Default)]

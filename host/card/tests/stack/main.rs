@@ -20,7 +20,7 @@ const CALL_STACK: usize = 8 * KIB;
 /// 64 columns of 128 cells.
 const BITS_SIZE: usize = 64 * 128 / 8;
 
-/// Left over for memcpy, memmove and memset, and for a dynamic linker that looks them up at their first call.
+/// Left over for memcpy and memset, and for a dynamic linker that looks them up at their first call.
 const C_LIBRARY: usize = 4 * KIB;
 
 /// What a call, by its exported name, needs at most.
