@@ -15,9 +15,9 @@ use std::ops::Range;
 use task::{Block, Position, Task};
 
 // The words of a column: a bit for each cell that it may have. And those of all columns.
-const COLUMN_WORDS: usize = (MAX_ROWS / u64::BITS) as usize; // `as`: in a constant std has no other form
+pub const COLUMN_WORDS: usize = (MAX_ROWS / u64::BITS) as usize; // `as`: in a constant std has no other form
 
-const ALL_WORDS: usize = COLUMN_WORDS * MAX_COLUMNS;
+pub const ALL_WORDS: usize = COLUMN_WORDS * MAX_COLUMNS;
 
 // The cells that are held, as the bits of all columns: one array, and a column is a part of it, as a column of a record is of its bytes.
 #[derive(Drop)]
@@ -54,6 +54,37 @@ fn cells_of(device: Device, block: Block, at: Position) -> Option<Range<u32>>
     Some(block.kind.cell(rows.bottom)..block.kind.cell(rows.top))
 }
 
+// Marks a block that is moved to a position, and says whether it fits.
+#[tactic(auto, using(crate::specs::Laws::Marks::refused))]
+fn mark_block(held: &mut [u64], device: Device, block: Block, at: Position) -> bool
+    requires len { length held.old ≡ all_words }
+    requires solid { Solid (seen block) }
+    requires position { EntryPosition at.column at.bottom }
+    ensures { BlockMarked (as_device device.entry) held.old (seen block) at.column at.bottom held.new result }
+{
+    let Some(run) = cells_of(device, block, at) else {
+        return false;
+    };
+    let c = at.column + block.extent.column;
+    mark(&mut held[words_at(c)], run)
+}
+
+// Marks the blocks of a task that is moved to a position, up to the first that does not fit, and says whether all fit. The words are lent: they may be
+// a part of a greater array. By a loop: each block is marked in the words that the next is tested against, which an `all` would hide in its closure.
+#[tactic(auto, using(crate::specs::Laws::Marks::blocks_start, crate::specs::Laws::Marks::blocks_refused, crate::specs::Laws::Marks::blocks_next, crate::specs::Laws::Marks::blocks_end, task::specs::Laws::Blocks::same_seen, model::proofs::Laws::Tasks::solid_block))]
+pub fn mark_task(held: &mut [u64], device: Device, task: Task, at: Position) -> bool
+    requires len { length held.old ≡ all_words }
+    requires position { EntryPosition at.column at.bottom }
+    ensures { TaskMarked (as_device device.entry) held.old task.entry.bytes.now at.column at.bottom held.new result }
+{
+    for k in 0..task.count() {
+        if !mark_block(held, device, task.block(k), at) {
+            return false;
+        }
+    }
+    true
+}
+
 impl HeldCells {
     // No cell is held.
     pub fn new() -> HeldCells
@@ -74,32 +105,11 @@ impl HeldCells {
         &self.words[words_at(c)]
     }
 
-    // Marks a block that is moved to a position, and says whether it fits.
-    #[tactic(auto, using(crate::specs::Laws::Marks::refused))]
-    fn mark_block(&mut self, device: Device, block: Block, at: Position) -> bool
-        requires solid { Solid (seen block) }
-        requires position { EntryPosition at.column at.bottom }
-        ensures { BlockMarked (as_device device.entry) self.old.words (seen block) at.column at.bottom self.new.words result }
-    {
-        let Some(run) = cells_of(device, block, at) else {
-            return false;
-        };
-        let c = at.column + block.extent.column;
-        mark(&mut self.words[words_at(c)], run)
-    }
-
-    // Marks the blocks of a task that is moved to a position, up to the first that does not fit, and says whether all fit. By a loop: each block is
-    // marked in the words that the next is tested against, which an `all` would hide in its closure.
-    #[tactic(auto, using(crate::specs::Laws::Marks::blocks_start, crate::specs::Laws::Marks::blocks_refused, crate::specs::Laws::Marks::blocks_next, crate::specs::Laws::Marks::blocks_end, task::specs::Laws::Blocks::same_seen, model::proofs::Laws::Tasks::solid_block))]
+    // Marks the blocks of a task that is moved to a position, as `mark_task` does.
     pub fn mark_task(&mut self, device: Device, task: Task, at: Position) -> bool
         requires { EntryPosition at.column at.bottom }
         ensures { TaskMarked (as_device device.entry) self.old.words task.entry.bytes.now at.column at.bottom self.new.words result }
     {
-        for k in 0..task.count() {
-            if !self.mark_block(device, task.block(k), at) {
-                return false;
-            }
-        }
-        true
+        mark_task(&mut self.words, device, task, at)
     }
 }

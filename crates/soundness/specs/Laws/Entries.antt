@@ -27,7 +27,7 @@ use Rattle.soundness.specs.Soundness.{RestZero, TasksHeld, Judged}
 use Rattle.soundness.specs.Laws.Before.{prior_above, insert_last}
 use Rattle.soundness.specs.Laws.Tested.{Passes, sound_fits}
 
-small_word : (r : List ℕ) (i : ℕ) → Bytes r → word r i < words
+pub small_word : (r : List ℕ) (i : ℕ) → Bytes r → word r i < words
 unfolding word
 small_word r i B = omega (arith, B i, B (i + 1))
 
@@ -43,7 +43,7 @@ module _ (r : List ℕ) (j : ℕ) (x : HasEntry r j) (h : HasTask r j) where
   pub task_length : (e : Running) → e ≡ bytes_entry r j → length e.task ≡ block_size * block_count r j
   task_length e i = rw i (blocks_length r j x h.few)
 
-  refused_fit : (ok : Bool) → ok ≡ (let e = bytes_entry r j in fits (device_of r) (take j (book_of r)) e.task e.column e.bottom) → ok ≡ false → sound r ≡ false
+  pub refused_fit : (ok : Bool) → ok ≡ (let e = bytes_entry r j in fits (device_of r) (take j (book_of r)) e.task e.column e.bottom) → ok ≡ false → sound r ≡ false
   refused_fit ok e f = is_false (sound r) (λ s. clash (sound_fits r j x s) (sym e ∙ f))
 
   -- ---- one task more
@@ -68,7 +68,7 @@ module _ (r : List ℕ) (j : ℕ) (x : HasEntry r j) (h : HasTask r j) where
     small : y.number < words
     small = omega (arith, number_said r j x.runs, small_word r (entry_at j) B)
 
-    held_next : (U : List ℕ) → RestZero r j → (let e = bytes_entry r j in TaskMarked (device_of r) H e.task e.column e.bottom U true) → TasksHeld r U (j + 1)
+    pub held_next : (U : List ℕ) → RestZero r j → (let e = bytes_entry r j in TaskMarked (device_of r) H e.task e.column e.bottom U true) → TasksHeld r U (j + 1)
     unfolding covered placed
     held_next U z k =
         let f : fits d (take j b) y.task y.column y.bottom ≡ true = rw is (sym (k.answers (take j b) m.shown)) in

@@ -2,7 +2,7 @@
 use Rattle.std.specs.Prelude.{ℕ, ◌≡◌, ◌<◌, Bool, true, false, Option, None, Some, MatchOption, List, length, get_or}
 use Rattle.std.specs.Borrow.{Bor}
 use Rattle.std.specs.Array.{IsWholeChunk}
-use Rattle.std.proofs.Common.{sym, ap, ◌∙◌, arith}
+use Rattle.std.proofs.Common.{sym, ap, ◌∙◌, arith, true≢false}
 use Rattle.std.proofs.lemmas.Bool.{false≢true}
 use Rattle.model.specs.Limits.{max_running, record_size, running_at}
 use Rattle.model.specs.Columns.{device_ok}
@@ -17,8 +17,11 @@ use Rattle.soundness.specs.Soundness.{Judged}
 pub judged_no : {r : List ℕ} {P : Type 0} → sound r ≡ false → Judged r P false
 judged_no h = record { holds = λ e. absurd (false≢true e); refused = λ e. h }
 
+pub judged_yes : {r : List ℕ} {P : Type 0} → P → Judged r P true
+judged_yes p = record { holds = λ e. p; refused = λ e. absurd (true≢false e) }
+
 module _ (r : List ℕ) where
-  refused_length : (length r ≡ record_size → ⊥) → false ≡ sound r
+  pub refused_length : (length r ≡ record_size → ⊥) → false ≡ sound r
   refused_length h = sym (is_false (sound r) (λ s. h (sound_length r s)))
 
   pub refused_device : device_ok (device_of r) ≡ false → false ≡ sound r

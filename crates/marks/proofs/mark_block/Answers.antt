@@ -1,9 +1,9 @@
--- `marks::HeldCells::mark_block`: the words of its column are lent, and what `mark` answers is the last test. Assumes nothing.
+-- `marks::mark_block`: the words of its column are lent, and what `mark` answers is the last test. Assumes nothing.
 use Rattle.std.proofs.Common.{◌∙◌, arith}
 use Rattle.std.proofs.Math.Nat.{add-sub_cancel_left}
 use Rattle.model.specs.Parts.{splice}
 use Rattle.marks.specs.Laws.Marks.{lent_length, on_card, run_of, block_marked}
-use Rattle.marks.proofs.HeldCells.mark_block.Goals as goal
+use Rattle.marks.proofs.mark_block.Goals as goal
 
 pub overflow_add-c : goal.overflow_add-c
 overflow_add-c c = omega (arith, c.requires.position.column, c.requires.solid.column)

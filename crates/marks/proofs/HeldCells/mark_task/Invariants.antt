@@ -1,7 +1,0 @@
--- `marks::HeldCells::mark_task` meets its contract. The invariant: the blocks passed fit, and are marked. Assumes nothing.
-use Rattle.record.specs.Device.{as_device}
-use Rattle.marks.specs.Laws.Marks.{TaskMarking}
-use Rattle.marks.proofs.HeldCells.mark_task.Given as goal
-
-abbrev pub invariant-loop-k : goal.invariant-loop-k
-invariant-loop-k l = TaskMarking (as_device l.device) l.initial.self.words l.task.bytes.now l.at.column l.at.bottom l.self.words l.k
