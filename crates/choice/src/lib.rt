@@ -16,6 +16,7 @@ ghost use Rattle.model.specs.Record.{device_of, book_of};
 ghost use Rattle.choice.specs.Choosing.{Rises, Climbed, FitsRange, Chooses};
 
 use listing::columns::{Room, column_ranges};
+use listing::run::BLANKS;
 use record::checked::SoundRecord;
 use runs::Range;
 pub use score::{Choice, Score};
@@ -42,7 +43,7 @@ fn rise(room: u32, step: u32) -> u32
 
 impl Search<'_> {
     // The better of the best so far and the bottoms of a range.
-    #[tactic(auto, using(crate::specs::Laws::Climbs::range_step, crate::specs::Laws::Climbs::rise_pos, crate::specs::Laws::Climbs::bottom_small))]
+    #[tactic(auto, using(listing::specs::Laws::Column::given_of, model::proofs::Laws::Tasks::sized_to, crate::specs::Laws::Climbs::range_step, crate::specs::Laws::Climbs::rise_pos, crate::specs::Laws::Climbs::bottom_small))]
     fn climb_range(
         self,
         column: usize,
@@ -69,7 +70,7 @@ impl Search<'_> {
     }
 
     // The better of the best so far and all positions of a column.
-    #[tactic(auto, using(crate::specs::Laws::Columns::passed_all))]
+    #[tactic(auto, using(model::proofs::Laws::Tasks::sized_to, crate::specs::Laws::Columns::passed_all))]
     fn climb_column(
         self,
         column: usize,
@@ -98,7 +99,9 @@ pub fn best_position(record: SoundRecord, task: Task) -> Option<Choice>
         task,
         step: task.step(),
     };
-    let mut room = Room::new();
+    let mut now = BLANKS;
+    let mut next = BLANKS;
+    let mut room = Room::new(&mut now, &mut next);
     let mut homes = Homes::new();
     let mut best = None;
     // By the column's number, which is part of a position. A turn writes `room` and `homes` beside `best`, which a fold would hide in what it

@@ -1,8 +1,8 @@
 // MODEL 11.1 to 11.3: the score of a position at which a task fits, block by block.
-ghost use Rattle.std.specs.Prelude.{◌≡◌, ◌+◌, ◌*◌, ◌<◌, ◌≤◌, true, false};
+ghost use Rattle.std.specs.Prelude.{◌≡◌, ◌+◌, ◌*◌, ◌<◌, ◌≤◌, true, false, replicate};
 ghost use Rattle.choice.specs.Bounds.{max_pieces, max_stretch};
 ghost use Rattle.runs.specs.Intervals.{Apart};
-ghost use Rattle.model.specs.Limits.{max_rows};
+ghost use Rattle.model.specs.Limits.{max_rows, max_blocks};
 ghost use Rattle.model.specs.Book.{fits};
 ghost use Rattle.model.specs.Record.{device_of, book_of};
 ghost use Rattle.column.specs.Part.{listed_in, first_reaching};
@@ -44,7 +44,9 @@ pub struct Homes {
 
 impl Homes {
     // No block had a home yet, and each search begins at the lowest interval.
-    pub fn new() -> Homes {
+    pub fn new() -> Homes
+        ensures { result.numbers ≡ replicate max_blocks 0 }
+    {
         Homes {
             numbers: [0; MAX_BLOCKS],
         }
@@ -165,7 +167,7 @@ impl Tally {
     }
 
     // One block more, in the home of the last one or in the one that a search finds.
-    #[tactic(auto, using(crate::specs::Laws::Homes::housed))]
+    #[tactic(auto, using(crate::specs::Laws::Homes::stands_housed))]
     fn add_block(&mut self, record: SoundRecord, block: Place, near: &mut usize)
         requires addable { Addable (free_in «record».bytes.now) self.old.rating block }
         requires home_is { shared self.old.last block ≡ true → self.old.last ≡ home_of (free_in «record».bytes.now) block }

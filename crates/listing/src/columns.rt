@@ -15,19 +15,21 @@ use task::Task;
 
 // Two lists to work in by turns: one is read while the other is written.
 #[derive(Drop)]
-pub struct Room {
-    now: Runs,
-    next: Runs,
+pub struct Room<'a> {
+    now: Runs<'a>,
+    next: Runs<'a>,
 }
 
-impl Room {
-    // Both lists are empty.
-    pub fn new() -> Room
+impl<'a> Room<'a> {
+    // Both lists are empty, in what is lent.
+    pub fn new(now: &'a mut [Run], next: &'a mut [Run]) -> Room<'a>
+        requires now { max_runs ≤ length now.old }
+        requires next { max_runs ≤ length next.old }
         ensures { AreEmpty result }
     {
         Room {
-            now: Runs::new(),
-            next: Runs::new(),
+            now: Runs::new(now),
+            next: Runs::new(next),
         }
     }
 }
@@ -87,7 +89,7 @@ impl InColumn<'_> {
     }
 
     // The lifted bottoms of the task: all half rows, met with one block after the other.
-    fn lifted_bottoms(self, room: &mut Room) -> &mut Runs
+    fn lifted_bottoms<'r, 'a>(self, room: &'r mut Room<'a>) -> &'r mut Runs<'a>
         requires { OnEach self.record.bytes.now self.task.bytes.now self.p }
         ensures { AllStanding self.entry.record.bytes.now self.entry.task.bytes.now self.entry.p result.now }
     {
@@ -104,7 +106,7 @@ impl InColumn<'_> {
 
     // MODEL 10.4: the ranges of the task.
     #[tactic(auto, using(crate::specs::Laws::Column::given_of, crate::specs::Laws::Column::ranged, crate::specs::Laws::Column::ranged_none))]
-    fn ranges(self, room: &mut Room) -> &[Run]
+    fn ranges<'r>(self, room: &'r mut Room) -> &'r [Run]
         ensures few { length result.now ≤ max_runs }
         ensures ranges { result.now ≡ ranges_in (device_of self.entry.record.bytes.now) (book_of self.entry.record.bytes.now) self.entry.task.bytes.now self.entry.p }
     {

@@ -9,7 +9,7 @@ ghost use Rattle.model.specs.Parts.{splice};
 ghost use Rattle.listing.specs.Output.{Writable, AllWritable, column_bytes, Answers};
 
 use crate::columns::{Room, column_ranges};
-use crate::run::Run;
+use crate::run::{BLANKS, Run};
 use record::checked::SoundRecord;
 use task::Task;
 use words::put16;
@@ -65,7 +65,9 @@ pub fn list(record: SoundRecord, task: Task, output: &mut [u8]) -> Option<u16>
     requires { list_room ≤ length output.old }
     ensures { Answers result (device_of «record».entry.bytes.now) (book_of «record».entry.bytes.now) task.entry.bytes.now output.old output.new }
 {
-    let mut room = Room::new();
+    let mut now = BLANKS;
+    let mut next = BLANKS;
+    let mut room = Room::new(&mut now, &mut next);
     // A step is at most 10, and a column below 64: each fits its byte.
     let step = task.step() as u8;
     let mut listing = Listing { output, count: 0 };

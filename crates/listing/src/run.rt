@@ -1,5 +1,5 @@
 // MODEL 10.3: a run of bottoms, and a column's list of them: brought down, and written to at its end.
-ghost use Rattle.std.specs.Prelude.{◌≡◌, ◌+◌, ◌-◌, ◌≤◌, ◌<◌, ◌↔◌, [], ◌∷◌, ◌++◌, length, map, slice_get, IsTrue, IsSomeAnd, All};
+ghost use Rattle.std.specs.Prelude.{◌≡◌, ◌+◌, ◌-◌, ◌≤◌, ◌<◌, ◌↔◌, [], ◌∷◌, ◌++◌, length, take, drop, map, slice_get, IsTrue, IsSomeAnd, All};
 ghost use Rattle.runs.specs.Runs.{run, push};
 ghost use Rattle.listing.specs.Bottoms.{lowered};
 ghost use Rattle.listing.specs.Lists.{max_runs, range, IsLifted, Pushable, Puttable, Joined};
@@ -50,35 +50,45 @@ impl Run {
     }
 }
 
-// The runs of a column. The kit's ArrayVec writes blanks over what it drops: with it here the search of a listing took 30 to 45 % longer than the same
-// code with a count of its own, which was the bar when the form was chosen (docs/DECISIONS.md, 91).
+// Room for the runs of a column, for a caller to lend.
+pub const BLANKS: [Run; MAX_RUNS] = [Run { first: 0, last: 0 }; MAX_RUNS];
+
+// The runs of a column, in lent memory. The kit's ArrayVec writes blanks over what it drops: with it here the search of a listing took 30 to 45 % longer
+// than the same code with a count of its own, which was the bar when the form was chosen (docs/DECISIONS.md, 91).
 #[derive(Drop)]
-pub struct Runs {
-    runs: [Run; MAX_RUNS],
-    count: usize,
+pub struct Runs<'a> {
+    pub(crate) runs: &'a mut [Run],
+    pub(crate) count: usize,
 }
 
-impl Model for Runs {
-    ghost use Rattle.std.specs.Prelude.{◌≤◌, List, take};
+impl<'a> Model for Runs<'a> {
+    ghost use Rattle.std.specs.Prelude.{◌≤◌, List, take, length};
     ghost use Rattle.runs.specs.Runs.{Run as ModelRun};
     ghost use Rattle.listing.specs.Lists.{max_runs};
 
     ghost Value = { List ModelRun };
 
-    ghost view = { λ l. take l.count l.runs };
+    ghost view = { λ l. take l.count l.runs.now };
 
-    ghost invariant = { λ l. l.count ≤ max_runs };
+    ghost invariant = { λ l. (l.count ≤ max_runs) × (max_runs ≤ length l.runs.now) };
 }
 
-impl Runs {
+impl<'a> Runs<'a> {
     // No runs.
-    pub fn new() -> Runs
+    pub fn new(runs: &'a mut [Run]) -> Runs<'a>
+        requires { max_runs ≤ length runs.old }
         ensures { result ≡ [] }
     {
-        Runs {
-            runs: [Run { first: 0, last: 0 }; MAX_RUNS],
-            count: 0,
-        }
+        Runs::of(runs, 0)
+    }
+
+    // The first runs of what is lent.
+    pub fn of(runs: &'a mut [Run], count: usize) -> Runs<'a>
+        requires room { max_runs ≤ length runs.old }
+        requires few { count ≤ max_runs }
+        ensures { result ≡ take count runs.old }
+    {
+        Runs { runs, count }
     }
 
     // The runs.
@@ -109,49 +119,59 @@ impl Runs {
         requires { All IsLifted self.old }
         ensures { self.new ≡ map lowered self.old }
     {
-        lower(&mut self.runs[..self.count]);
+        lower_runs(&mut self.runs[..self.count]);
     }
 
     // Puts a range at the end: as one run with the last of them, where it goes on one step above its end.
-    #[tactic(auto, using(crate::specs::Laws::Lists::apart, crate::specs::Laws::Lists::room_apart))]
     pub fn push(&mut self, r: Range)
         requires { Pushable self.old r }
         ensures { self.new ≡ push r.step (run r.first r.last) self.old }
     {
-        if self.goes_on(r) {
-            let n = self.count - 1;
-            let end = self.runs[n];
-            self.runs[n] = Run {
-                last: r.last,
-                ..end
-            };
-        } else {
-            self.append(Run::from(r));
-        }
-    }
-
-    // Whether a range begins one step above the end of the last run.
-    fn goes_on(&self, r: Range) -> bool
-        requires { Pushable self.now r }
-        ensures { IsTrue result ↔ IsSomeAnd (slice_get self.now (length self.now - 1)) (λ q. q.last + r.step ≡ r.first) }
-    {
-        self.as_slice()
-            .last()
-            .is_some_and(|end| end.last + r.step == r.first)
-    }
-
-    // Puts a run at the end, by itself.
-    fn append(&mut self, run: Run)
-        requires { length self.old < max_runs }
-        ensures { self.new ≡ self.old ++ run ∷ [] }
-    {
-        self.runs[self.count] = run;
-        self.count += 1;
+        self.count = push(self.runs, self.count, r);
     }
 }
 
+// Puts a range behind the first n runs, as `Runs::push` does, and says how many there are then. A walk keeps the count in a number of its own: through
+// a `Runs` that it is lent, a search takes a tenth longer.
+#[tactic(auto, using(crate::specs::Laws::Lists::apart, crate::specs::Laws::Lists::room_behind))]
+pub fn push(runs: &mut [Run], n: usize, r: Range) -> usize
+    requires room { max_runs ≤ length runs.old }
+    requires few { n ≤ max_runs }
+    requires pushable { Pushable (take n runs.old) r }
+    ensures runs { take result runs.new ≡ push r.step (run r.first r.last) (take n runs.old) }
+    ensures few { result ≤ max_runs }
+{
+    if goes_on(&runs[..n], r) {
+        let last = n - 1;
+        let end = runs[last];
+        runs[last] = Run {
+            last: r.last,
+            ..end
+        };
+        return n;
+    }
+    append(runs, n, Run::from(r));
+    n + 1
+}
+
+// Whether a range begins one step above the end of the last run.
+fn goes_on(runs: &[Run], r: Range) -> bool
+    requires { Pushable runs.now r }
+    ensures { IsTrue result ↔ IsSomeAnd (slice_get runs.now (length runs.now - 1)) (λ q. q.last + r.step ≡ r.first) }
+{
+    runs.last().is_some_and(|end| end.last + r.step == r.first)
+}
+
+// Puts a run behind the first n, by itself.
+fn append(runs: &mut [Run], n: usize, run: Run)
+    requires { n < length runs.old }
+    ensures { take (n + 1) runs.new ≡ take n runs.old ++ run ∷ [] }
+{
+    runs[n] = run;
+}
+
 // Brings the bottoms of runs down to their value.
-fn lower(runs: &mut [Run])
+pub fn lower_runs(runs: &mut [Run])
     requires { All IsLifted runs.old }
     ensures { runs.new ≡ map lowered runs.old }
 {
@@ -161,12 +181,33 @@ fn lower(runs: &mut [Run])
     }
 }
 
+// Copies the first n runs of a list.
+pub fn copy_runs(from: &[Run], n: usize, to: &mut [Run])
+    requires from { n ≤ length from.now }
+    requires to { n ≤ length to.old }
+    ensures { to.new ≡ take n from.now ++ drop n to.old }
+{
+    to[..n].copy_from_slice(&from[..n]);
+}
+
 // Puts what two ranges both name at the end of a list.
 pub fn put(a: Range, b: Range, list: &mut Runs)
     requires { Puttable list.old a b }
     ensures { Joined a b list.old list.new }
 {
+    list.count = put_in(a, b, list.runs, list.count);
+}
+
+// Puts it behind the first n runs, and says how many there are then.
+pub fn put_in(a: Range, b: Range, runs: &mut [Run], n: usize) -> usize
+    requires room { max_runs ≤ length runs.old }
+    requires few { n ≤ max_runs }
+    requires puttable { Puttable (take n runs.old) a b }
+    ensures joined { Joined a b (take n runs.old) (take result runs.new) }
+    ensures few { result ≤ max_runs }
+{
     if let Some(r) = a.meet(b) {
-        list.push(r);
+        return push(runs, n, r);
     }
+    n
 }

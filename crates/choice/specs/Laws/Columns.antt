@@ -27,9 +27,8 @@ use Rattle.model.proofs.Laws.Ends.{chosen_at}
 use Rattle.model.proofs.Laws.NoPosition.{chosen_nothing_iff}
 use Rattle.listing.specs.Columns.{Given, ranges_in}
 use Rattle.listing.specs.Lists.{range}
-use Rattle.listing.specs.Laws.Column.{given_of, some_blocks}
+use Rattle.listing.specs.Laws.Column.{some_blocks}
 use Rattle.runs.specs.declared.Range.{Range}
-use Rattle.choice.specs.declared.Search.{Search}
 use Rattle.choice.specs.Choosing.{Is, Climbed, FitsRange, Chooses}
 use Rattle.choice.specs.declared.score.Choice.{Choice}
 
@@ -44,96 +43,80 @@ pub record Passed (d : Device) (b : Book) (t : List ℕ) (p i : ℕ) (c e : Opti
   pub within : i ≤ length (ranges_in d b t p)
   pub climbed : Climbed (judge d b t) p 0 (range_at d b t p i).first c e
 
-module _ (S : Search) where
-  abbrev d : Device
-  d = device_of S.record.bytes.now
+module _ (d : Device) (b : Book) (t : List ℕ) (w : well_formed t ≡ true) (n : 1 ≤ blocks t) (p : ℕ) where
+  listed : Lists (step t) (fits d b t p) (half_rows d) (ranges_in d b t p)
+  listed = runs_lists (step t) (fits d b t p) (fits_steps d b t p n) (half_rows d)
 
-  abbrev b : Book
-  b = book_of S.record.bytes.now
+  -- what fits is named
+  named : (y : ℕ) → fits d b t p y ≡ true → Mem (step t) y (ranges_in d b t p)
+  named y f = (listed.named y).1 ((fits_below d b t p y w n f).1, f)
 
-  abbrev t : List ℕ
-  t = S.task.bytes.now
+  -- nothing fits below the first range
+  pub passed_none : (c : Option Choice) → Passed d b t p 0 c c
+  unfolding judge
+  passed_none c = record {
+    within = omega arith;
+    climbed = λ f k. rw (climb_none (judge d b t) p 0 (range_at d b t p 0).first f (omega arith)
+        (λ z a l. is_false (fits d b t p z) (λ e. none_before (step t) 0 (half_rows d) (ranges_in d b t p) z listed.canon (named z e) l))) k;
+  }
 
-  w : well_formed t ≡ true
-  w = S.task.well_formed
+  -- what a walk over the ranges reads at i
+  pub range_read : (L : List Run) (i : ℕ) (r : Run) → L ≡ ranges_in d b t p → i < length L → r ≡ get_or L i r → r ≡ range_at d b t p i
+  range_read L i r e l q = rw (← e) (get_or_read L i r l q (run (half_rows d) (half_rows d)))
 
-  n : 1 ≤ blocks t
-  n = some_blocks S.record.bytes.now t (given_of S.record S.task)
+  module _ (i : ℕ) (x : Run) (l : i < length (ranges_in d b t p)) (q : x ≡ range_at d b t p i) where
+    -- nothing fits above range i and below the next
+    none_next : (z : ℕ) → x.last < z → z < (range_at d b t p (suc i)).first → fits d b t p z ≡ false
+    none_next z a e =
+        is_false (fits d b t p z)
+        (λ f. none_between (step t) 0 (half_rows d) (ranges_in d b t p) i z listed.canon l (named z f) (rw q at a) e)
 
-  module _ (p : ℕ) where
-    listed : Lists (step t) (fits d b t p) (half_rows d) (ranges_in d b t p)
-    listed = runs_lists (step t) (fits d b t p) (fits_steps d b t p n) (half_rows d)
+    last_fits : fits d b t p x.last ≡ true
+    last_fits =
+        let s = (run_at (step t) 0 (ranges_in d b t p) i (run (half_rows d) (half_rows d)) listed.canon l).1 in
+        rw (← q) at ((listed.named _).0 (run_named (step t) (ranges_in d b t p) i (run (half_rows d) (half_rows d)) _ l (s, omega arith))).1
 
-    -- what fits is named
-    named : (y : ℕ) → fits d b t p y ≡ true → Mem (step t) y (ranges_in d b t p)
-    named y f = (listed.named y).1 ((fits_below d b t p y w n f).1, f)
+    -- the next range begins two steps or more above its end, or there is none
+    abbrev Next : Type 0
+    Next = (x.last + 2 * step t ≤ (range_at d b t p (suc i)).first) ⊎ ((range_at d b t p (suc i)).first ≡ half_rows d)
 
-    -- nothing fits below the first range
-    pub passed_none : (c : Option Choice) → Passed d b t p 0 c c
-    unfolding judge
-    passed_none c = record {
-      within = omega arith;
-      climbed = λ f k. rw (climb_none (judge d b t) p 0 (range_at d b t p 0).first f (omega arith)
-          (λ z a l. is_false (fits d b t p z) (λ e. none_before (step t) 0 (half_rows d) (ranges_in d b t p) z listed.canon (named z e) l))) k;
-    }
+    above : Next
+    above = go (lt_or_ge (suc i) (length (ranges_in d b t p)))
+      where
+        go : (suc i < length (ranges_in d b t p)) ⊎ (length (ranges_in d b t p) ≤ suc i) → Next
+        go (inl h) = inl (rw (← q) at (next_above (step t) 0 (half_rows d) (ranges_in d b t p) i listed.canon h))
+        go (inr h) = inr (start_past (half_rows d) (ranges_in d b t p) (suc i) h)
 
-    -- what a walk over the ranges reads at i
-    pub range_read : (L : List Run) (i : ℕ) (r : Run) → L ≡ ranges_in d b t p → i < length L → r ≡ get_or L i r → r ≡ range_at d b t p i
-    range_read L i r e l q = rw (← e) (get_or_read L i r l q (run (half_rows d) (half_rows d)))
-
-    module _ (i : ℕ) (x : Run) (l : i < length (ranges_in d b t p)) (q : x ≡ range_at d b t p i) where
-      -- nothing fits above range i and below the next
-      none_next : (z : ℕ) → x.last < z → z < (range_at d b t p (suc i)).first → fits d b t p z ≡ false
-      none_next z a e =
-          is_false (fits d b t p z)
-          (λ f. none_between (step t) 0 (half_rows d) (ranges_in d b t p) i z listed.canon l (named z f) (rw q at a) e)
-
-      last_fits : fits d b t p x.last ≡ true
-      last_fits =
-          let s = (run_at (step t) 0 (ranges_in d b t p) i (run (half_rows d) (half_rows d)) listed.canon l).1 in
-          rw (← q) at ((listed.named _).0 (run_named (step t) (ranges_in d b t p) i (run (half_rows d) (half_rows d)) _ l (s, omega arith))).1
-
-      -- the next range begins two steps or more above its end, or there is none
-      abbrev Next : Type 0
-      Next = (x.last + 2 * step t ≤ (range_at d b t p (suc i)).first) ⊎ ((range_at d b t p (suc i)).first ≡ half_rows d)
-
-      above : Next
-      above = go (lt_or_ge (suc i) (length (ranges_in d b t p)))
+    module _ (s : ℕ) (R : Range) (r : R ≡ range s x) where
+      -- range i is one of column p
+      pub range_fits : s ≡ step t → FitsRange d b t p R
+      range_fits e = rw r (record {
+        step_is = e;
+        last_in = rw (← q) at (run_at (step t) 0 (ranges_in d b t p) i (run (half_rows d) (half_rows d)) listed.canon l).1;
+        all_fit = λ z m. ((listed.named z).0 (run_named (step t) (ranges_in d b t p) i (run (half_rows d) (half_rows d)) z l (rw q at m))).1;
+        ends = is_false (fits d b t p (x.last + step t)) (λ f. clash f (none_next (x.last + step t) (omega (arith, step_bounds t n)) (below f above)));
+      })
         where
-          go : (suc i < length (ranges_in d b t p)) ⊎ (length (ranges_in d b t p) ≤ suc i) → Next
-          go (inl h) = inl (rw (← q) at (next_above (step t) 0 (half_rows d) (ranges_in d b t p) i listed.canon h))
-          go (inr h) = inr (start_past (half_rows d) (ranges_in d b t p) (suc i) h)
+          below : fits d b t p (x.last + step t) ≡ true → Next → x.last + step t < (range_at d b t p (suc i)).first
+          below f (inl h) = omega (arith, step_bounds t n)
+          below f (inr h) = rw h (fits_below d b t p (x.last + step t) w n f).1
 
-      module _ (R : Range) (r : R ≡ range S.step x) where
-        -- range i is one of column p
-        pub range_fits : FitsRange d b t p R
-        range_fits = rw r (record {
-          step_is = S.step_is;
-          last_in = rw (← q) at (run_at (step t) 0 (ranges_in d b t p) i (run (half_rows d) (half_rows d)) listed.canon l).1;
-          all_fit = λ z m. ((listed.named z).0 (run_named (step t) (ranges_in d b t p) i (run (half_rows d) (half_rows d)) z l (rw q at m))).1;
-          ends = is_false (fits d b t p (x.last + step t)) (λ f. clash f (none_next (x.last + step t) (omega (arith, step_bounds t n)) (below f above)));
-        })
-          where
-            below : fits d b t p (x.last + step t) ≡ true → Next → x.last + step t < (range_at d b t p (suc i)).first
-            below f (inl h) = omega (arith, step_bounds t n)
-            below f (inr h) = rw h (fits_below d b t p (x.last + step t) w n f).1
+      -- one range more
+      pub passed_next : (c e e' : Option Choice) → Passed d b t p i c e → Climbed (judge d b t) p R.first (suc R.last) e e' → Passed d b t p (i + 1) c e'
+      unfolding judge
+      passed_next c e e' h g = rw add-one (record {
+        within = l;
+        climbed = λ f k.
+            rw (climb_none (judge d b t) p (suc x.last) (range_at d b t p (suc i)).first f (up above) none_next) ((rw r at g) f (rw (← q) at (h.climbed f k)));
+      })
+        where
+          up : Next → suc x.last ≤ (range_at d b t p (suc i)).first
+          up (inl m) = omega (arith, step_bounds t n)
+          up (inr m) = rw m (fits_below d b t p x.last w n last_fits).1
 
-        -- one range more
-        pub passed_next : (c e e' : Option Choice) → Passed d b t p i c e → Climbed (judge d b t) p R.first (suc R.last) e e' → Passed d b t p (i + 1) c e'
-        unfolding judge
-        passed_next c e e' h g = rw add-one (record {
-          within = l;
-          climbed = λ f k.
-              rw (climb_none (judge d b t) p (suc x.last) (range_at d b t p (suc i)).first f (up above) none_next) ((rw r at g) f (rw (← q) at (h.climbed f k)));
-        })
-          where
-            up : Next → suc x.last ≤ (range_at d b t p (suc i)).first
-            up (inl m) = omega (arith, step_bounds t n)
-            up (inr m) = rw m (fits_below d b t p x.last w n last_fits).1
-
-    -- all ranges are passed
-    pub passed_all : (i : ℕ) (c e : Option Choice) → length (ranges_in d b t p) ≤ i → Passed d b t p i c e → Climbed (judge d b t) p 0 (half_rows d) c e
-    passed_all i c e l h = rw (start_past (half_rows d) (ranges_in d b t p) i l) at h.climbed
+  -- all ranges are passed
+  pub passed_all : (i : ℕ) (c e : Option Choice) → length (ranges_in d b t p) ≤ i → Passed d b t p i c e → Climbed (judge d b t) p 0 (half_rows d) c e
+  passed_all i c e l h = rw (start_past (half_rows d) (ranges_in d b t p) i l) at h.climbed
 
 -- ---- all columns
 

@@ -1,10 +1,11 @@
 -- MODEL 11.1: where a block of a task that fits stands, and its home, from the bytes of a sound record. Assumes nothing.
-use Prim.Native.Nat.{ℕ, zero, suc, ◌+◌, ◌-◌, ◌≤◌, ◌<◌}
+use Prim.Native.Nat.{ℕ, zero, suc, ◌+◌, ◌-◌, ◌*◌, ◌≤◌, ◌<◌}
 use Rattle.std.specs.Prelude.{◌≡◌, true, List, eqb}
 use Rattle.std.proofs.Math.Path.{sym, ap, ap₂, ◌∙◌}
 use Rattle.std.proofs.Common.{arith}
 use Rattle.runs.specs.Intervals.{Interval, interval, Apart}
 use Rattle.runs.specs.Laws.Tests.{tests, and_to}
+use Rattle.model.specs.Limits.{max_rows}
 use Rattle.model.specs.Tasks.{blocks, block}
 use Rattle.model.specs.Book.{Placed, fits, intervals}
 use Rattle.model.specs.Homes.{holder, home, joined}
@@ -17,7 +18,7 @@ use Rattle.model.proofs.Laws.Limits.{limits_to}
 use Rattle.model.proofs.Laws.Cells.{interval_ends}
 use Rattle.model.proofs.Laws.Clauses.{clauses_to}
 use Rattle.model.proofs.Laws.Sound.{sound_within, listed_said}
-use Rattle.model.proofs.Laws.Homes.{Stands as Free, found}
+use Rattle.model.proofs.Laws.Homes.{Stands as Free, found, at_home}
 use Rattle.model.proofs.Laws.Firsts.{shared_home, joined_top}
 use Rattle.model.proofs.Laws.Ends.{column_free}
 use Rattle.column.specs.Part.{listed_in, ReadAt, first_reaching}
@@ -59,9 +60,9 @@ module _ (r : List ℕ) (s : sound r ≡ true) (b : Place) (g : Stands (interval
           ap (λ (x : Interval). record { bottom = x.bottom; top = x.top }) (a.is ∙ found ∙ rw free_listed)
 
   -- it ends inside its home
-  pub housed : (h : Rows) → h ≡ (home_of (intervals (device_of r) (book_of r)) b).rows → Housed b.rows h
+  pub stands_housed : (h : Rows) → h ≡ (home_of (intervals (device_of r) (book_of r)) b).rows → Housed b.rows h
   unfolding L
-  housed i e =
+  stands_housed i e =
       let d = device_of r in
       let k = book_of r in
       let h = found b.rows.bottom b.rows.top g.full 0 L (column_free d k b.column).canon g.held in
@@ -82,6 +83,10 @@ module _ (B : Placed) (L : ℕ → List Interval) where
   home_at k = place_at (B.column k) (home B L k)
 
   module _ (C : ℕ) (s : Free B C L) where
+    -- a block ends inside its home
+    pub housed : (k : ℕ) → k < B.count → (home B L k).top ≤ 2 * max_rows → Housed (block_of k).rows (home_at k).rows
+    housed k l small = let h = at_home B C L s k l in record { low = omega (arith, h.below, h.above, s.full k l); above = h.above; roof_small = small }
+
     -- it is shared where the next block is joined to its own
     pub joined_shared : (k : ℕ) → 1 ≤ k → k < B.count → joined B L k ≡ shared (home_at (k - 1)) (block_of k)
     unfolding joined

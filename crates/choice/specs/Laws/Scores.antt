@@ -20,8 +20,8 @@ use Rattle.task.specs.declared.Extent.{Extent}
 use Rattle.task.specs.Blocks.{SameExtent}
 use Rattle.listing.specs.Columns.{Given}
 use Rattle.column.specs.declared.Interval.{Interval as Read}
-use Rattle.choice.specs.Choosing.{free_in, moved, place_at, Stands, home_of, shared, span_of, Alone, Addable, Added, Rated, Scoring, Scored}
-use Rattle.choice.specs.Laws.Homes.{block_of, home_at, joined_shared, shared_is, housed, on_device}
+use Rattle.choice.specs.Choosing.{free_in, moved, Stands, home_of, shared, span_of, Alone, Addable, Added, Rated, Scoring, Scored}
+use Rattle.choice.specs.Laws.Homes.{block_of, home_at, joined_shared, shared_is, stands_housed, on_device}
 use Rattle.choice.specs.declared.tally.Place.{Place}
 use Rattle.choice.specs.declared.tally.Rating.{Rating}
 use Rattle.choice.specs.declared.tally.Tally.{Tally}
@@ -69,6 +69,16 @@ module _ (B : Placed) (L : ℕ → List Interval) where
           room_small = omega (arith, r.room_small, w.room);
         })
 
+  -- the same behind the last one, in whose home the block may stand
+  pub scoring_next : (C : ℕ) → Free B C L → (k : ℕ) → 1 ≤ k → k < B.count → (home B L k).top ≤ 2 * max_rows → (x : Tally) → Scoring B L k x
+      → (y : Tally) → Added x.rating (shared x.last (block_of B L k)) (block_of B L k).rows (home_at B L k).rows y.rating → y.last ≡ home_at B L k → Scoring B L (k + 1) y
+  scoring_next C st k m l small x g y h q =
+      let back : k + 1 - 1 ≡ k = omega arith in
+      record {
+        rated = rated_next C st k x.rating l g.rated small (shared x.last (block_of B L k)) (rw g.last (joined_shared B L C st k m l)) y.rating h;
+        last = rw back q;
+      }
+
 -- one block more of a task that fits
 module _ (r t : List ℕ) (a : Given r t) (p y k : ℕ) (f : fits (device_of r) (book_of r) t p y ≡ true) (l : k < blocks t) (x : Extent) (s : SameExtent x (block t k))
     (b : Place) (e : b ≡ moved x p y) where
@@ -94,30 +104,24 @@ module _ (r t : List ℕ) (a : Given r t) (p y k : ℕ) (f : fits (device_of r) 
       → (z : Rating) → Added o q b.rows (home_of (free_in r) b).rows z → Rated (placed t p y) (free_in r) (k + 1) z
   unfolding placed home
   block_rated o g q j z h =
-      let small = (housed r a.sound b block_stands _ refl).roof_small in
+      let small = (stands_housed r a.sound b block_stands _ refl).roof_small in
       rated_next _ _ _ free k o l g (rw is_block at small) q j z (rw is_block at h)
 
-  -- its home is the last one then
-  block_last : (h : Place) → h ≡ home_of (free_in r) b
-      → h ≡ place_at ((placed t p y).column (k + 1 - 1)) (home (placed t p y) (free_in r) (k + 1 - 1))
-  unfolding placed home
-  block_last h q = let back : k + 1 - 1 ≡ k = omega arith in rw back (q ∙ rw is_block)
-
   -- block 0 is the first in its home
-  first_rated : k ≡ 0 → (z : Rating) → Alone false b.rows (home_of (free_in r) b).rows z
-      → Rated (placed t p y) (free_in r) (k + 1) z
-  unfolding joined none
-  first_rated m z h =
-      let small : z.room < words = omega (arith, h.room, (housed r a.sound b block_stands _ refl).roof_small) in
-      block_rated (none z.room) (rw m (rated_none (placed t p y) (free_in r) z.room small)) false (rw m) z (record {
-        pieces = omega (arith, h.pieces);
-        stretch = omega (arith, h.stretch);
-        room = omega (arith, h.room);
-      })
-
   pub scoring_first : k ≡ 0 → (z : Tally) → Alone false b.rows (home_of (free_in r) b).rows z.rating
       → z.last ≡ home_of (free_in r) b → Scoring (placed t p y) (free_in r) (k + 1) z
-  scoring_first m z h q = record { rated = first_rated m z.rating h; last = block_last z.last q }
+  unfolding joined none placed home
+  scoring_first m z h q =
+      let back : k + 1 - 1 ≡ k = omega arith in
+      let small : z.rating.room < words = omega (arith, h.room, (stands_housed r a.sound b block_stands _ refl).roof_small) in
+      record {
+        rated = block_rated (none z.rating.room) (rw m (rated_none (placed t p y) (free_in r) z.rating.room small)) false (rw m) z.rating (record {
+          pieces = omega (arith, h.pieces);
+          stretch = omega (arith, h.stretch);
+          room = omega (arith, h.room);
+        });
+        last = rw back (q ∙ rw is_block);
+      }
 
   -- a later block may stand in that of the block before it
   module _ (m : 1 ≤ k) (o : Tally) (g : Scoring (placed t p y) (free_in r) k o) where
@@ -125,15 +129,12 @@ module _ (r t : List ℕ) (a : Given r t) (p y k : ℕ) (f : fits (device_of r) 
     unfolding placed home
     next_shared = rw (g.last, is_block) (shared_is (placed t p y) (free_in r) _ free k m l)
 
-    next_rated : (z : Rating) → Added o.rating (shared o.last b) b.rows (home_of (free_in r) b).rows z
-        → Rated (placed t p y) (free_in r) (k + 1) z
-    unfolding placed
-    next_rated =
-        block_rated o.rating g.rated (shared o.last b) (rw (g.last, is_block) (joined_shared (placed t p y) (free_in r) _ free k m l))
-
-    pub scoring_next : (z : Tally) → Added o.rating (shared o.last b) b.rows (home_of (free_in r) b).rows z.rating
+    pub block_next : (z : Tally) → Added o.rating (shared o.last b) b.rows (home_of (free_in r) b).rows z.rating
         → z.last ≡ home_of (free_in r) b → Scoring (placed t p y) (free_in r) (k + 1) z
-    scoring_next z h q = record { rated = next_rated z.rating h; last = block_last z.last q }
+    unfolding placed home
+    block_next z h q =
+        let small = (stands_housed r a.sound b block_stands _ refl).roof_small in
+        scoring_next _ _ _ free k m l (rw is_block at small) o g z (rw is_block at h) (q ∙ rw is_block)
 
 -- all blocks are scored
 pub scored : (d : Device) (b : Book) (t : List ℕ) (p y k : ℕ) (x : Rating) → well_formed t ≡ true → blocks t ≤ max_blocks → fits d b t p y ≡ true

@@ -18,7 +18,7 @@ use Rattle.listing.specs.Lists.{max_runs}
 
 module _ (s : ℕ) (r : Run) where
   -- the last run q goes on
-  push_longer : (L : List Run) (i : ℕ) (q : Run) → suc i ≡ length L → get_or L i q ≡ q → q.last + s ≡ r.first → set L i (run q.first r.last) ≡ push s r L
+  pub push_longer : (L : List Run) (i : ℕ) (q : Run) → suc i ≡ length L → get_or L i q ≡ q → q.last + s ≡ r.first → set L i (run q.first r.last) ≡ push s r L
   unfolding push
   push_longer [] i q l e h = absurd (omega arith)
   push_longer (x ∷ []) zero q l e h = rw (e, eq-eqb (q.last + s) r.first h)
@@ -27,7 +27,7 @@ module _ (s : ℕ) (r : Run) where
   push_longer (x ∷ y ∷ L) (suc i) q l e h = ap (λ (K : List Run). x ∷ K) (push_longer (y ∷ L) i q (omega arith) e h)
 
   -- it does not
-  push_more : (L : List Run) (i : ℕ) (q : Run) → suc i ≡ length L → get_or L i q ≡ q → (q.last + s ≡ r.first → ⊥) → L ++ r ∷ [] ≡ push s r L
+  pub push_more : (L : List Run) (i : ℕ) (q : Run) → suc i ≡ length L → get_or L i q ≡ q → (q.last + s ≡ r.first → ⊥) → L ++ r ∷ [] ≡ push s r L
   unfolding push
   push_more [] i q l e h = absurd (omega arith)
   push_more (x ∷ []) zero q l e h = rw (e, ne_eqb (q.last + s) r.first h)
@@ -66,6 +66,10 @@ module _ (s : ℕ) (r : Run) where
 
   pub room_apart : (L : List Run) (b : Bool) → (b ≡ true) ↔ GoesOn L → b ≡ false → length L < length (push s r L)
   room_apart L b o e = rw (← apart L b o e, length-append) (omega arith)
+
+  -- the list is the first n runs of an array
+  pub room_behind : (A : List Run) (n : ℕ) → n ≤ length A → (b : Bool) → (b ≡ true) ↔ GoesOn (take n A) → b ≡ false → n < length (push s r (take n A))
+  room_behind A n l b o e = omega (arith, room_apart (take n A) b o e, length-take n A)
 
 -- ---- the runs of a list, one after the other
 

@@ -41,7 +41,7 @@ from_at p i zero j d l = absurd (omega arith)
 from_at p i (suc n) zero d l = rw add-zero
 from_at p i (suc n) (suc j) d l = let e : suc i + j ≡ i + suc j = omega arith in rw e at (from_at p (suc i) n j d (omega arith))
 
-listed_at : (p : List ℕ) (n j : ℕ) (d : Interval) → j < n → get_or (listed_in p n) j d ≡ interval_at p j
+pub listed_at : (p : List ℕ) (n j : ℕ) (d : Interval) → j < n → get_or (listed_in p n) j d ≡ interval_at p j
 unfolding listed_in
 listed_at p n j d l = let e : 0 + j ≡ j = omega arith in rw e at (from_at p 0 n j d l)
 

@@ -3,7 +3,7 @@ use mathlib.Core.Path.{refl}
 use Rattle.model.proofs.Laws.Tasks.{sized_to}
 use Rattle.listing.specs.Laws.Column.{given_of, some_blocks}
 use Rattle.choice.specs.Laws.Homes.{on_device}
-use Rattle.choice.specs.Laws.Scores.{block_stands, block_addable, scoring_first, next_shared, scoring_next, scored}
+use Rattle.choice.specs.Laws.Scores.{block_stands, block_addable, scoring_first, next_shared, block_next, scored}
 use Rattle.choice.proofs.tally.score_at.Goals as goal
 
 pub new-requires : goal.new-requires
@@ -37,7 +37,7 @@ pub loop-k-preserved : goal.loop-k-preserved
 loop-k-preserved c =
     let l = rw c.count-k-end.ensures.count at c.loop-k-test.true in
     let added = c.add_block.ensures in
-    scoring_next _ _ (given_of c.args.record c.args.task) _ _ _ c.requires l _ c.extent-in-loop-k.ensures _ c.new-in-loop-k.ensures
+    block_next _ _ (given_of c.args.record c.args.task) _ _ _ c.requires l _ c.extent-in-loop-k.ensures _ c.new-in-loop-k.ensures
     c.loop-k.auto.k _ c.loop-k.invariant _ added.rating added.last
 
 pub returns : goal.returns

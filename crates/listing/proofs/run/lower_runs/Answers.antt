@@ -2,7 +2,7 @@ use Rattle.std.proofs.Common.{arith}
 use Rattle.std.proofs.lemmas.List.Edits.{map_over_more}
 use Rattle.runs.specs.Runs.{run}
 use Rattle.listing.specs.Bottoms.{lowered}
-use Rattle.listing.proofs.run.lower.Goals as goal
+use Rattle.listing.proofs.run.lower_runs.Goals as goal
 
 pub loop-run-preserved : goal.loop-run-preserved
 loop-run-preserved c =
