@@ -44,13 +44,31 @@ impl Fields {
         ensures { read_said result ≡ six_fields line.now }
     {
         let mut fields = line.split(|byte| *byte == b' ');
+        let Some(letter) = fields.next().and_then(byte) else {
+            return None;
+        };
+        let Some(task) = fields.next().and_then(number) else {
+            return None;
+        };
+        let Some(column) = fields.next().and_then(number) else {
+            return None;
+        };
+        let Some(kind) = fields.next().and_then(byte) else {
+            return None;
+        };
+        let Some(bottom) = fields.next().and_then(number) else {
+            return None;
+        };
+        let Some(top) = fields.next().and_then(number) else {
+            return None;
+        };
         let read = Fields {
-            letter: fields.next().and_then(byte)?,
-            task: fields.next().and_then(number)?,
-            column: fields.next().and_then(number)?,
-            kind: fields.next().and_then(byte)?,
-            bottom: fields.next().and_then(number)?,
-            top: fields.next().and_then(number)?,
+            letter,
+            task,
+            column,
+            kind,
+            bottom,
+            top,
         };
         fields.next().is_none().then_some(read)
     }

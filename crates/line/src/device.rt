@@ -56,8 +56,12 @@ pub fn device_line(line: &[u8]) -> Option<DeviceLine>
         return None;
     }
     let mut fields = line.split(|byte| *byte == b' ');
-    let rows: u16 = fields.next().and_then(number)?;
-    let kinds = fields.next().and_then(kinds)?;
+    let Some(rows) = fields.next().and_then(number::<u16>) else {
+        return None;
+    };
+    let Some(kinds) = fields.next().and_then(kinds) else {
+        return None;
+    };
     fields.next().is_none().then_some(DeviceLine {
         rows: u32::from(rows),
         kinds,

@@ -8,20 +8,20 @@ use Rattle.line.specs.Laws.Calls.{natural_here}
 use Rattle.line.specs.Laws.Device.{kinds_here, rows_lost, kinds_lost, two_done, with_number}
 use Rattle.line.proofs.device.device_line.Goals as goal
 
-pub returns-in_err-rows : goal.returns-in_err-rows
-returns-in_err-rows c =
+pub returns-in_default : goal.returns-in_default
+returns-in_default c =
     let l = c.args.line.now in
     let rows = first _ l c.split-fields.ensures.rest c.split-fields.ensures.done c.next.ensures.steps (λ x b q k. search (rules, tests)) in
-    let lost = sym (natural_here rows.taken 16 max_rows_field refl (omega arith) _ _ c.and_then.ensures) ∙ ap read c.in_err-rows.was in
-    rw c.from_residual.ensures (with_number None (sym (rows_lost l lost)))
+    let lost = sym (natural_here rows.taken 16 max_rows_field refl (omega arith) _ _ c.and_then.ensures) ∙ ap read c.in_default.is in
+    with_number None (sym (rows_lost l lost))
 
-pub returns-in_err-kinds : goal.returns-in_err-kinds
-returns-in_err-kinds c =
+pub returns-in_default-and_then : goal.returns-in_default-and_then
+returns-in_default-and_then c =
     let l = c.args.line.now in
     let rows = first _ l c.split-fields.ensures.rest c.split-fields.ensures.done c.next.ensures.steps (λ x b q k. search (rules, tests)) in
     let kinds = next rows.rest c.next-2.ensures.steps in
-    let lost = sym (kinds_here kinds.taken c.and_then-2.result c.and_then-2.ensures) ∙ ap items_said c.in_err-kinds.was in
-    rw c.from_residual-in_err-kinds.ensures (with_number None (sym (kinds_lost l lost)))
+    let lost = sym (kinds_here kinds.taken c.and_then-2.result c.and_then-2.ensures) ∙ ap items_said c.in_default-and_then.is in
+    with_number None (sym (kinds_lost l lost))
 
 pub returns : goal.returns
 returns c =
@@ -29,6 +29,6 @@ returns c =
     let rows = first _ l c.split-fields.ensures.rest c.split-fields.ensures.done c.next.ensures.steps (λ x b q k. search (rules, tests)) in
     let kinds = next rows.rest c.next-2.ensures.steps in
     let end = next kinds.rest c.next-3.ensures.steps in
-    let n = sym (natural_here rows.taken 16 max_rows_field refl (omega arith) _ _ c.and_then.ensures) ∙ ap read c.in_ok-rows.was in
-    let ks = sym (kinds_here kinds.taken c.and_then-2.result c.and_then-2.ensures) ∙ ap items_said c.in_ok-kinds.was in
-    rw (c.then_some.ensures, c.from.ensures) (with_number _ (two_done l c.in_ok-rows.rows c.in_ok-kinds.kinds c.is_none.result end.taken c.is_none.ensures c.if-line-gt-MAX_LINE.false n ks))
+    let n = sym (natural_here rows.taken 16 max_rows_field refl (omega arith) _ _ c.and_then.ensures) ∙ ap read c.in-Some.is in
+    let ks = sym (kinds_here kinds.taken c.and_then-2.result c.and_then-2.ensures) ∙ ap items_said c.in-Some-and_then.is in
+    rw (c.then_some.ensures, c.from.ensures) (with_number _ (two_done l c.in-Some.rows c.in-Some-and_then.kinds c.is_none.result end.taken c.is_none.ensures c.if-line-gt-MAX_LINE.false n ks))
