@@ -5,6 +5,7 @@
 #![tactic(auto)]
 
 ghost use Rattle.std.specs.Prelude.{◌≡◌, ◌<◌, not, ◌||◌, ◌^◌, [], pos, IfOk, MatchResult};
+ghost use Rattle.model.specs.Limits.{column_weight};
 ghost use Rattle.model.specs.Record.{device_of, book_of};
 ghost use Rattle.model.specs.Sound.{number_ok};
 ghost use Rattle.model.specs.Calls.{list, choose, place, release, runs_in};
@@ -175,9 +176,10 @@ pub fn list(record: &[u8], task: &[u8], output: &mut [u8]) -> Result<u16, Refusa
     listing::output::list(record, task, output).ok_or(Refusal::NoPosition)
 }
 
-// MODEL 11.6: the choice for a task.
+// MODEL 11.6: the choice for a task. Its bottom is below 1,024, so that its number fixes the column and the bottom.
 pub fn choose(record: &[u8], task: &[u8]) -> Result<Chosen, Refusal>
-    ensures { Leaves (on_record «record».now (choose task.now)) (answer_by position_of result) «record».now [] }
+    ensures chosen { Leaves (on_record «record».now (choose task.now)) (answer_by position_of result) «record».now [] }
+    ensures below { IfOk result (λ at. at.bottom < column_weight) }
 {
     let (record, task) = check_task(record, task)?;
     let Some(best) = choice::best_position(record, task) else {
@@ -231,7 +233,7 @@ pub fn view(record: &[u8], column: u32) -> &[u8]
     ensures { result.now ≡ view «record».now column }
 {
     let Ok(listed) = check_column(record, column) else {
-        return &[];
+        return &record[..0];
     };
     &listed.part[..model::INTERVAL_SIZE * listed.count]
 }

@@ -44,6 +44,10 @@ module _ (r : List ℕ) (k : ℕ) (s : sound r ≡ true) where
           let d = leaves (count_done r k s l) in
           record { answer_is = sym count_said; record_is = d.record_is; output_is = d.output_is }
 
+      -- a number that is the count, however it was read
+      pub count_told : {n : ℕ} → n ≡ count_of r k → Leaves (interval_count r k) (pos n) r []
+      count_told e = rw e count_done_at
+
       pub view_part : take (interval_size * count_of r k) (lent r k) ≡ view r k
       unfolding view view_of part
       view_part =
