@@ -1,4 +1,5 @@
 -- What is proved of the definitions.
+pub mod Buffer
 pub mod Card
 pub mod Refusals
 pub mod Input

@@ -39,7 +39,7 @@ impl From<Fault> for i32 {
 
     fn from(fault: Fault) -> i32 {
         match fault {
-            Fault::TooLong | Fault::Malformed(_) => -12,
+            Fault::TooLong | Fault::Malformed(_) => crate::MALFORMED_LINE,
             Fault::Device(refusal) => i32::from(refusal),
         }
     }

@@ -1,7 +1,7 @@
 // The input: where its lines end, and its first three lines.
 ghost use Rattle.std.specs.Prelude.{◌≡◌, ◌≤◌, ◌++◌, length, MatchOption, MatchResult};
 ghost use Rattle.std.specs.Fn.{FnOnceReturnsAt};
-ghost use Rattle.model.specs.Limits.{max_sheet};
+ghost use Rattle.model.specs.Limits.{max_sheet, record_size};
 ghost use Rattle.model.specs.Sheet.{device_line};
 ghost use Rattle.model.specs.Program.{first, second, lines, program};
 ghost use Rattle.line.specs.Print.{names_line};
@@ -10,7 +10,6 @@ ghost use Rattle.desk.specs.Input.{Parts, Opened, Refuses, Names, Begun, Leads};
 
 use crate::MAX_SHEET;
 use crate::fault::Fault;
-use model::RECORD_SIZE;
 
 // MODEL 17.1: the first line of some bytes, without its newline, and the bytes after it; nothing where there are no bytes.
 pub(crate) fn next_line(input: &[u8]) -> Option<(&[u8], &[u8])>
@@ -36,7 +35,8 @@ fn line(input: &[u8], number: u32) -> Result<(&[u8], &[u8]), Fault>
 
 // The card of the second line: new judges its device. The card is lent down to here: handed back, its 29,188 bytes would be moved at each return.
 #[tactic(auto, using(crate::specs::Laws::Input::refuses_none))]
-fn new_card(line: &[u8], card: &mut [u8; RECORD_SIZE]) -> Result<(), Fault>
+fn new_card(line: &[u8], card: &mut [u8]) -> Result<(), Fault>
+    requires { length card.old ≡ record_size }
     ensures { MatchResult result (λ _. Opened (device_line line.now) card.new) (Refuses (device_line line.now)) }
 {
     let device = line::device::device_line(line).ok_or(Fault::Malformed(2))?;
@@ -59,7 +59,8 @@ fn names<F: FnOnce(&[u8]) -> bool>(input: &[u8], number: u32, are_names: F) -> R
 
 // The second line, and the third. The card is that of the second line.
 #[tactic(auto, using(crate::specs::Laws::Input::second_none))]
-fn second<'a>(input: &'a [u8], card: &mut [u8; RECORD_SIZE]) -> Result<&'a [u8], Fault>
+fn second<'a>(input: &'a [u8], card: &mut [u8]) -> Result<&'a [u8], Fault>
+    requires { length card.old ≡ record_size }
     ensures { Leads input.now card.new (second (lines input.now)) result }
 {
     let (device, rest) = line(input, 2)?;
@@ -68,7 +69,8 @@ fn second<'a>(input: &'a [u8], card: &mut [u8; RECORD_SIZE]) -> Result<&'a [u8],
 }
 
 // The first line, and the second and the third.
-fn first<'a>(input: &'a [u8], card: &mut [u8; RECORD_SIZE]) -> Result<&'a [u8], Fault>
+fn first<'a>(input: &'a [u8], card: &mut [u8]) -> Result<&'a [u8], Fault>
+    requires { length card.old ≡ record_size }
     ensures { Leads input.now card.new (first (lines input.now)) result }
 {
     second(names(input, 1, line::device::is_first_names)?, card)
@@ -76,7 +78,8 @@ fn first<'a>(input: &'a [u8], card: &mut [u8; RECORD_SIZE]) -> Result<&'a [u8], 
 
 // MODEL 18.2: the first three lines of an input that is not too long.
 #[tactic(auto, using(crate::specs::Laws::Program::program_long, crate::specs::Laws::Program::program_short))]
-pub(crate) fn begin<'a>(input: &'a [u8], card: &mut [u8; RECORD_SIZE]) -> Result<&'a [u8], Fault>
+pub(crate) fn begin<'a>(input: &'a [u8], card: &mut [u8]) -> Result<&'a [u8], Fault>
+    requires { length card.old ≡ record_size }
     ensures { MatchResult result (λ r. Begun card.new (first (lines input.now)) r.now × (length r.now ≤ length input.now) × (length input.now ≤ max_sheet)) (λ f. program input.now ≡ names_line ++ shown_fault f) }
 {
     if MAX_SHEET < input.len() {

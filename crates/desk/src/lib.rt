@@ -9,12 +9,13 @@ pub mod program; // the start, and one turn
 mod fault; // lines that are at fault
 mod input; // where lines end, and the first three lines
 mod stand; // where the program stands
+mod buffer; // lent bytes that are filled from the first on
 mod draft; // the draft task
 mod lines; // a line from the fourth on
 mod ranges; // L
 mod output; // lines that have only an answer
 
-use arrayvec::ArrayString;
+pub use buffer::Buffer;
 pub use draft::Draft;
 pub use stand::Stand;
 
@@ -30,14 +31,13 @@ pub const DRAFT_ROOM: usize = model::BLOCK_SIZE * model::MAX_BLOCKS;
 // The bytes that the longest output of one line of input needs: a line for each range that a listing has room for.
 pub const OUTPUT_ROOM: usize = line::LINE_ROOM * (model::LIST_ROOM / model::RANGE_SIZE);
 
-// Room for what a turn prints. A turn takes any that is no smaller, and the start any that has room for two lines: one size, or a type that is only made
-// of room enough, would ask more of a caller. So each function that a turn calls says of its N how great it is.
-pub type Output = ArrayString<OUTPUT_ROOM>;
+// A malformed line's refusal.
+pub const MALFORMED_LINE: i32 = -12;
 
-// A card's record and a draft task.
+// A card's record and a draft task, in what is lent. So a desk is small, and nothing of them is moved where it is.
 #[derive(Drop)]
-pub struct Desk {
-    pub card: [u8; model::RECORD_SIZE],
-    pub draft: Draft,
-    ghost is_card: { Card card },
+pub struct Desk<'a> {
+    pub card: &'a mut [u8],
+    pub draft: Draft<'a>,
+    ghost is_card: { Card card.now },
 }

@@ -1,25 +1,27 @@
 // L: a line of output for each range of the draft.
-ghost use Rattle.std.specs.Prelude.{◌≡◌, [], pos, ◌+◌, ◌*◌, ◌≤◌, ◌++◌, length};
-ghost use Rattle.model.specs.Limits.{range_size};
+ghost use Rattle.std.specs.Prelude.{◌≡◌, pos, ◌+◌, ◌*◌, ◌≤◌, ◌++◌, length};
+ghost use Rattle.model.specs.Limits.{range_size, list_room};
 ghost use Rattle.model.specs.Calls.{ranges_in};
 ghost use Rattle.model.specs.Sheet.{list_draft};
 ghost use Rattle.model.specs.Program.{shows, on_call};
-ghost use Rattle.arrayvec.specs.ArrayString.{array_string_len};
 ghost use Rattle.line.specs.Print.{line_room};
-ghost use Rattle.desk.specs.Desk.{output_room, desk_of};
+ghost use Rattle.desk.specs.Buffer.{filled, room, SameLent};
+ghost use Rattle.desk.specs.Desk.{output_room};
+ghost use Rattle.desk.specs.Held.{desk_in};
 
 use crate::Desk;
+use crate::buffer::Buffer;
 use crate::output::say;
-use arrayvec::ArrayString;
 use line::print::OutputLine;
-use model::{LIST_ROOM, RANGE_FIRST_AT, RANGE_LAST_AT, RANGE_SIZE, RANGE_STEP_AT};
+use model::{RANGE_FIRST_AT, RANGE_LAST_AT, RANGE_SIZE, RANGE_STEP_AT};
 use words::get16;
 
 // The lines of output of the first `count` ranges of a listing.
-fn print_ranges<const N: usize>(listing: &[u8], count: u16, number: u32, out: &mut ArrayString<N>)
+fn print_ranges(listing: &[u8], count: u16, number: u32, out: &mut Buffer)
     requires listed { range_size * count ≤ length listing.now }
-    requires room { array_string_len out.old + line_room * count ≤ N }
-    ensures { out.new.bytes ≡ out.old.bytes ++ shows number (pos count) (ranges_in count listing.now) }
+    requires has_room { out.old.len + line_room * count ≤ room out.old }
+    ensures printed { filled out.new ≡ filled out.old ++ shows number (pos count) (ranges_in count listing.now) }
+    ensures same_lent { SameLent out.old out.new }
 {
     let (ranges, _) = listing.as_chunks::<RANGE_SIZE>();
     for range in &ranges[..usize::from(count)] {
@@ -31,20 +33,21 @@ fn print_ranges<const N: usize>(listing: &[u8], count: u16, number: u32, out: &m
             step: u32::from(range[RANGE_STEP_AT]),
             last: get16(range, RANGE_LAST_AT),
         };
-        out.push_str(line.text().as_str());
+        out.push(line.text().as_str().as_bytes());
     }
 }
 
-impl Desk {
+impl Desk<'_> {
     // The draft's ranges, or the refusal.
-    pub(crate) fn list<const N: usize>(&self, number: u32, out: &mut ArrayString<N>)
-        requires room { output_room ≤ N }
-        requires empty { out.old.bytes ≡ [] }
-        ensures { out.new.bytes ≡ (on_call number (desk_of self.now.card self.now.draft.bytes.items) list_draft).printed }
+    pub(crate) fn list(&self, number: u32, listing: &mut [u8], out: &mut Buffer)
+        requires lists { length listing.old ≡ list_room }
+        requires has_room { output_room ≤ room out.old }
+        requires empty { out.old.len ≡ 0 }
+        ensures printed { filled out.new ≡ (on_call number (desk_in self.now) list_draft).printed }
+        ensures same_lent { SameLent out.old out.new }
     {
-        let mut listing = [0u8; LIST_ROOM];
-        match card::list(&self.card, self.draft.bytes.as_slice(), &mut listing) {
-            Ok(count) => print_ranges(&listing, count, number, out),
+        match card::list(self.card, self.draft.as_slice(), listing) {
+            Ok(count) => print_ranges(listing, count, number, out),
             Err(refusal) => say(out, number, i32::from(refusal)),
         }
     }

@@ -4,7 +4,7 @@
 
 ghost use Rattle.std.specs.Prelude.{length, ◌≤◌, IfOk};
 
-use desk::Output;
+use desk::{Buffer, Desk, Draft};
 use std::io;
 use std::io::{Eprint, Print, Read};
 
@@ -31,22 +31,32 @@ fn read<R: Read>(from: &mut R, input: &mut [u8]) -> io::Result<usize>
     Ok(n)
 }
 
-// Writes what was printed, all of it or with an error.
-fn write<P: Print>(to: &P, out: &Output) -> io::Result<()> {
-    to.write_all(out.as_str().as_bytes())
+// Writes what was printed, all of it or with an error. In its caller's frame, since it is called where the stack is largest.
+#[inline]
+fn write<P: Print>(to: &P, out: &Buffer) -> io::Result<()> {
+    to.write_all(out.as_slice())
 }
 
 // The program on an input: its start, and its turns. It ends where what they printed could not be written.
+// What they are lent stands here once, on the stack.
 fn run<P: Print>(to: &P, input: &[u8]) -> io::Result<()> {
-    let mut out = Output::new();
-    let begun = desk::program::start(input, &mut out);
+    let mut card = [0u8; model::RECORD_SIZE];
+    let mut draft = [0u8; desk::DRAFT_ROOM];
+    let mut listing = [0u8; model::LIST_ROOM];
+    let mut printed = [0u8; desk::OUTPUT_ROOM];
+    let mut out = Buffer::new(&mut printed);
+    let begun = desk::program::start(input, &mut card, &mut out);
     write(to, &out)?;
-    let Some((mut desk, first)) = begun else {
+    let Some(first) = begun else {
         return Ok(());
+    };
+    let mut desk = Desk {
+        card: &mut card,
+        draft: Draft::new(&mut draft),
     };
     let mut stand = Some(first);
     while let Some(at) = stand {
-        stand = desk.turn(at, &mut out);
+        stand = desk.turn(at, &mut listing, &mut out);
         write(to, &out)?;
     }
     Ok(())
@@ -65,9 +75,8 @@ fn tell<R: Eprint + AllocGlobal>(rt: &R, end: &str, fault: io::Error) -> io::Res
 }
 
 fn main(rt: HostRuntime) -> io::Result<()> {
-    // Not on the stack, most of which the output takes.
-    let mut input = vec![in rt.alloc(); 0u8; desk::INPUT_ROOM]?;
-    match read(&mut rt.stdin(), input.as_mut_slice()) {
+    let mut input = [0u8; desk::INPUT_ROOM];
+    match read(&mut rt.stdin(), &mut input) {
         Err(fault) => tell(&rt, "standard input", fault),
         Ok(n) => match run(&rt, &input[..n]) {
             Err(fault) => tell(&rt, "standard output", fault),

@@ -1,4 +1,5 @@
-//! The stack of the sheet program: on the heaviest sheets it runs in the limit that the README states.
+//! The memory of the sheet program: on the heaviest sheets it runs on the stack that the README states, and takes no
+//! other memory.
 
 use std::os::unix::process::ExitStatusExt;
 use std::process::{Command, Output};
@@ -13,15 +14,25 @@ const STACK: usize = 512;
 /// Less than the input, the card and a listing take.
 const TOO_LITTLE: usize = 64;
 
+/// Room for what the loader and the C library take, in KiB, and for no heap: the least that the allocator asks the
+/// system for is more than is left.
+const DATA: usize = 176;
+
 /// The signal that ends a program whose stack has run out.
 const SEGMENTATION_FAULT: i32 = 11;
 
 /// What the program does with a sheet on a stack of so many KiB.
 fn run(stack: usize, sheet: &[u8]) -> Output {
+    run_in("-s", stack, sheet)
+}
+
+/// What the program does with a sheet in so many KiB of what a letter of `ulimit` names.
+fn run_in(what: &str, limit: usize, sheet: &[u8]) -> Output {
     let mut command = Command::new("sh");
     command
-        .args(["-c", "ulimit -s \"$0\" && exec \"$1\""])
-        .arg(stack.to_string())
+        .args(["-c", "ulimit \"$0\" \"$1\" && exec \"$2\""])
+        .arg(what)
+        .arg(limit.to_string())
         .arg(sheets::program())
         .env_clear();
     sheets::feed(&mut command, sheet).expect("a shell runs")
@@ -63,6 +74,14 @@ fn the_heaviest_sheets_run_in_it() {
     let longer = "\n".repeat(40_000);
     for text in [combs, listings, faults, longer, String::new()] {
         let printed = ended_well(run(STACK, text.as_bytes())).expect("it runs");
+        compare(&format!("{text:.100}"), &printed, &sheet(text.as_bytes()));
+    }
+}
+
+#[test]
+fn it_takes_no_memory_but_its_stack() {
+    for text in [combs(), "\n".repeat(40_000), String::new()] {
+        let printed = ended_well(run_in("-d", DATA, text.as_bytes())).expect("it runs");
         compare(&format!("{text:.100}"), &printed, &sheet(text.as_bytes()));
     }
 }

@@ -15,8 +15,9 @@ use Rattle.model.proofs.Laws.Kept.{within_new, kept}
 use Rattle.model.proofs.Laws.ReadBack.{device_of_record, book_of_record}
 use Rattle.line.specs.Print.{names_line}
 use Rattle.desk.specs.declared.stand.Stand.{Stand}
-use Rattle.desk.specs.Desk.{desk_of, Leaves}
+use Rattle.desk.specs.Desk.{desk_of, Card, Leaves}
 use Rattle.desk.specs.Input.{Parts, Begun}
+use Rattle.desk.specs.Laws.Card.{card_begun}
 use Rattle.desk.specs.Laws.Input.{no_lines}
 use Rattle.desk.specs.Run.{State, state, left_in, yet_from, yet, Starts, Turned, Turns, printed_in}
 
@@ -81,6 +82,12 @@ module _ (input card rest out : List ℕ) (b : Begun card (first (lines input)) 
   starts_some p (n, parts) =
       let w = within_new b.device b.ok in
       rw (named, program_short input small, b.output_is, parts.lines_are, n, b.card_is, device_of_record b.device [] w, book_of_record b.device [] w) refl
+
+  -- which there is a card for
+  pub started : (o : Option Stand) → MatchOption o (length rest ≡ 0) (λ s. (s.number ≡ 4) × Parts rest s.line.now s.rest.now)
+      → MatchOption o ((k : Desk) → Starts input (state k None out)) (λ s. Card card × Starts input (state (desk_of card []) (Some s) out))
+  started None h = starts_none h
+  started (Some p) h = (card_begun b, starts_some p h)
 
 -- ---- turn by turn
 

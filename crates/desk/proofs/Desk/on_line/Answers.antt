@@ -2,8 +2,8 @@
 use Rattle.desk.specs.Laws.Lines.{leaves_called, leaves_malformed}
 use Rattle.desk.proofs.Desk.on_line.Goals as goal
 
-pub returns-in-Some : goal.returns-in-Some
-returns-in-Some g c = leaves_called _ c.args.self.now.is_card _ _ _ c.in-Some.ensures c.on_call.ensures
+pub returns-in-Some-clause-leaves : goal.returns-in-Some-clause-leaves
+returns-in-Some-clause-leaves c = leaves_called _ c.args.self.now.is_card _ _ _ c.in-Some.ensures c.on_call.ensures.leaves
 
-pub returns-in-None : goal.returns-in-None
-returns-in-None g c = rw (c.say_fault.ensures, c.clear.ensures) (leaves_malformed _ c.args.self.now.is_card _ _ _ c.in-None.ensures)
+pub returns-in-None-clause-leaves : goal.returns-in-None-clause-leaves
+returns-in-None-clause-leaves c = rw (c.say_fault.ensures.printed, c.clear.ensures.empty) (leaves_malformed _ c.args.self.now.is_card _ _ _ c.in-None.ensures)

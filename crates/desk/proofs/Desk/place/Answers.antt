@@ -2,5 +2,5 @@
 use Rattle.desk.specs.Laws.Card.{card_after}
 use Rattle.desk.proofs.Desk.place.Goals as goal
 
-pub invariant_of-self-2 : goal.invariant_of-self-2
-invariant_of-self-2 c = record { is_card = card_after _ c.args.self.now.is_card _ c.place.ensures.record_is }
+pub invariant_of-self : goal.invariant_of-self
+invariant_of-self c = record { is_card = card_after _ c.args.self.now.is_card _ c.place.ensures.record_is }

@@ -1,8 +1,9 @@
--- `start`: no line after the first three. Assumes nothing.
-use Rattle.desk.specs.Laws.Program.{starts_none}
+-- `start`: the fourth line, or no line after the first three. Assumes nothing.
+use Rattle.std.proofs.Common.{◌∙◌}
+use Rattle.desk.specs.Laws.Program.{started}
 use Rattle.desk.proofs.program.start.Goals as goal
 
-pub returns-in_err-stand-in-Ok : goal.returns-in_err-stand-in-Ok
-returns-in_err-stand-in-Ok g c =
+pub returns-in-Ok-clause-starts : goal.returns-in-Ok-clause-starts
+returns-in-Ok-clause-starts c =
     let x = c.in-Ok.ensures in
-    rw c.from_residual.ensures (starts_none _ _ _ _ x.0 x.2 (rw (c.push_str.ensures.bytes, c.clear.ensures) c.names.ensures) c.in_err-stand-in-Ok.ensures)
+    started _ _ _ _ x.0 x.2 (rw (c.push.ensures.bytes, c.clear.ensures.empty) (c.as_bytes.ensures.value ∙ c.names.ensures)) c.at.result c.at.ensures
