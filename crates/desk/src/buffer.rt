@@ -1,5 +1,5 @@
 // Lent bytes that are filled from the first one on: the draft, and what a turn prints.
-ghost use Rattle.std.specs.Prelude.{◌≡◌, ◌+◌, ◌≤◌, ◌++◌, length};
+ghost use Rattle.std.specs.Prelude.{◌≡◌, ◌+◌, ◌≤◌, ◌++◌, length, IsUtf8};
 
 // A slice and a count, since what is lent may be longer than what is filled. The bytes behind that say nothing.
 // The clauses `same_lent` say that it stays the slice that `new` was lent.
@@ -11,7 +11,7 @@ pub struct Buffer<'a> {
 }
 
 impl<'a> Buffer<'a> {
-    ghost use Rattle.desk.specs.Buffer.{filled, room, SameLent};
+    ghost use Rattle.desk.specs.Buffer.{filled, room, IsText, SameLent};
 
     // In what is lent, with nothing filled.
     pub fn new(bytes: &'a mut [u8]) -> Buffer<'a>
@@ -29,8 +29,10 @@ impl<'a> Buffer<'a> {
         &self.bytes[..self.len]
     }
 
+    #[tactic(auto, using(crate::specs::Laws::Buffer::text_none))]
     pub(crate) fn clear(&mut self)
         ensures empty { self.new.len ≡ 0 }
+        ensures text { IsText self.new }
         ensures same_lent { SameLent self.old self.new }
     {
         self.len = 0;
@@ -41,6 +43,7 @@ impl<'a> Buffer<'a> {
         requires { self.old.len + length more.now ≤ room self.old }
         ensures bytes { filled self.new ≡ filled self.old ++ more.now }
         ensures len { self.new.len ≡ self.old.len + length more.now }
+        ensures text { IsText self.old → IsUtf8 more.now → IsText self.new }
         ensures same_lent { SameLent self.old self.new }
     {
         let end = self.len + more.len();

@@ -1,5 +1,5 @@
 // MODEL 18.10 and 18.11: the draft task.
-ghost use Rattle.std.specs.Prelude.{◌≡◌, ◌+◌, ◌%◌, ◌≤◌, ◌++◌, ◌↔◌, length, IsOk, OnOk, OnErr, IfErr};
+ghost use Rattle.std.specs.Prelude.{◌≡◌, [], ◌+◌, ◌%◌, ◌≤◌, ◌++◌, ◌↔◌, length, IsOk, OnOk, OnErr, IfErr};
 ghost use Rattle.model.specs.Limits.{block_size};
 ghost use Rattle.card.specs.declared.refusal.Refusal.TheVariants.{TaskLength};
 ghost use Rattle.line.specs.Block.{call_bytes};
@@ -8,29 +8,69 @@ ghost use Rattle.desk.specs.Buffer.{room};
 
 use crate::DRAFT_ROOM;
 use crate::buffer::Buffer;
+use arrayvec::ArrayVec;
 use card::Refusal;
 use line::call::BlockCall;
 use model::BLOCK_SIZE;
 
+// The bytes of whole blocks, 32 of them at most, its own.
+#[derive(Drop)]
+pub struct Draft {
+    pub bytes: ArrayVec<u8, DRAFT_ROOM>,
+    ghost whole: { length bytes.items % block_size ≡ 0 },
+}
+
+impl Draft {
+    ghost use Rattle.desk.specs.Buffer.{filled};
+
+    // N: no block.
+    pub(crate) fn new() -> Draft
+        ensures { result.bytes.items ≡ [] }
+    {
+        Draft {
+            bytes: ArrayVec::new(),
+        }
+    }
+
+    // Its blocks, in what is lent.
+    pub(crate) fn lend<'a>(&self, bytes: &'a mut [u8]) -> LentDraft<'a>
+        requires { draft_room ≤ length bytes.old }
+        ensures { filled result.bytes ≡ self.now.bytes.items }
+    {
+        let mut bytes = Buffer::new(bytes);
+        bytes.push(self.bytes.as_slice());
+        LentDraft { bytes }
+    }
+
+    // The blocks that are lent become its own.
+    pub(crate) fn keep(&mut self, lent: &LentDraft)
+        ensures { self.new.bytes.items ≡ filled lent.now.bytes }
+    {
+        let mut bytes = ArrayVec::new();
+        bytes.try_extend_from_slice(lent.as_slice()).unwrap();
+        self.bytes = bytes;
+    }
+}
+
 // The bytes of whole blocks, 32 of them at most, in what is lent.
 #[derive(Drop)]
-pub struct Draft<'a> {
+pub struct LentDraft<'a> {
     pub bytes: Buffer<'a>,
     ghost room: { draft_room ≤ room bytes },
     ghost most: { bytes.len ≤ draft_room },
     ghost whole: { bytes.len % block_size ≡ 0 },
 }
 
-impl<'a> Draft<'a> {
+impl<'a> LentDraft<'a> {
     ghost use Rattle.desk.specs.Buffer.{filled, SameLent};
 
     // No block, in what is lent.
-    pub fn new(bytes: &'a mut [u8]) -> Draft<'a>
+    pub fn new(bytes: &'a mut [u8]) -> LentDraft<'a>
         requires { draft_room ≤ length bytes.old }
         ensures empty { result.bytes.len ≡ 0 }
         ensures same_reference { result.bytes.bytes.ghost_name ≡ bytes.entry.ghost_name }
     {
-        Draft {
+        LentDraft {
             bytes: Buffer::new(bytes),
         }
     }

@@ -14,9 +14,13 @@ mod draft; // the draft task
 mod lines; // a line from the fourth on
 mod ranges; // L
 mod output; // lines that have only an answer
+mod text; // what is printed, as text
+#[cfg(test)]
+mod tests; // a desk that is handed on
 
+use arrayvec::ArrayString;
 pub use buffer::Buffer;
-pub use draft::Draft;
+pub use draft::{Draft, LentDraft};
 pub use stand::Stand;
 
 // The most bytes of an input.
@@ -34,10 +38,21 @@ pub const OUTPUT_ROOM: usize = line::LINE_ROOM * (model::LIST_ROOM / model::RANG
 // A malformed line's refusal.
 pub const MALFORMED_LINE: i32 = -12;
 
+// Room for what a turn prints, as a text of its own. A turn of a `Desk` takes any that is no smaller, and its start any that has room for two lines.
+pub type Output = ArrayString<OUTPUT_ROOM>;
+
+// A card's record and a draft task that it owns, for a caller that hands the desk on. Each of its turns is one of a `LentDesk` on copies of them.
+#[derive(Drop)]
+pub struct Desk {
+    pub card: [u8; model::RECORD_SIZE],
+    pub draft: Draft,
+    ghost is_card: { Card card },
+}
+
 // A card's record and a draft task, in what is lent. So a desk is small, and nothing of them is moved where it is.
 #[derive(Drop)]
-pub struct Desk<'a> {
+pub struct LentDesk<'a> {
     pub card: &'a mut [u8],
-    pub draft: Draft<'a>,
+    pub draft: LentDraft<'a>,
     ghost is_card: { Card card.now },
 }

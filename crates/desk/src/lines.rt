@@ -7,18 +7,18 @@ ghost use Rattle.model.specs.Program.{on_call, on_line};
 ghost use Rattle.card.specs.Answers.{answer_by, position_of};
 ghost use Rattle.card.specs.Leaves.{Changes};
 ghost use Rattle.line.specs.Calls.{call_said};
-ghost use Rattle.desk.specs.Buffer.{filled, room, SameLent};
+ghost use Rattle.desk.specs.Buffer.{filled, room, IsText, SameLent};
 ghost use Rattle.desk.specs.Desk.{output_room, Leaves};
 ghost use Rattle.desk.specs.Held.{desk_in, SameHeld};
 
-use crate::Desk;
+use crate::LentDesk;
 use crate::buffer::Buffer;
 use crate::fault::Fault;
 use crate::output::{say, say_fault};
 use card::{Chosen, Refusal, answer};
 use line::call::Call;
 
-impl Desk<'_> {
+impl LentDesk<'_> {
     // C: the best position of the draft.
     fn choose(&self) -> Result<Chosen, Refusal>
         ensures { Changes (on_record self.now.card.now (choose (filled self.now.draft.bytes))) (answer_by position_of result) self.now.card.now }
@@ -58,6 +58,7 @@ impl Desk<'_> {
         requires has_room { output_room ≤ room out.old }
         requires empty { out.old.len ≡ 0 }
         ensures leaves { Leaves (on_call number (desk_in self.old) (call_said call)) self.new.card.now (filled self.new.draft.bytes) (filled out.new) }
+        ensures text { IsText out.old → IsText out.new }
         ensures same_lent { SameLent out.old out.new }
         ensures same_held { SameHeld self.old self.new }
     {
@@ -88,6 +89,7 @@ impl Desk<'_> {
         requires lists { length listing.old ≡ list_room }
         requires has_room { output_room ≤ room out.old }
         ensures leaves { Leaves (on_line number (desk_in self.old) line.now) self.new.card.now (filled self.new.draft.bytes) (filled out.new) }
+        ensures text { IsText out.new }
         ensures same_lent { SameLent out.old out.new }
         ensures same_held { SameHeld self.old self.new }
     {

@@ -2,7 +2,7 @@
 ghost use Rattle.std.specs.Prelude.{◌≡◌, ◌+◌, ◌≤◌, ◌++◌};
 ghost use Rattle.model.specs.Program.{says};
 ghost use Rattle.line.specs.Print.{line_room};
-ghost use Rattle.desk.specs.Buffer.{filled, room, SameLent};
+ghost use Rattle.desk.specs.Buffer.{filled, room, IsText, SameLent};
 ghost use Rattle.desk.specs.Fault.{shown_fault};
 
 use crate::buffer::Buffer;
@@ -13,6 +13,7 @@ use line::print::OutputLine;
 pub(crate) fn say(out: &mut Buffer, number: u32, answer: i32)
     requires { out.old.len + line_room ≤ room out.old }
     ensures printed { filled out.new ≡ filled out.old ++ says number answer }
+    ensures text { IsText out.old → IsText out.new }
     ensures same_lent { SameLent out.old out.new }
 {
     let line = OutputLine {
@@ -30,6 +31,7 @@ pub(crate) fn say(out: &mut Buffer, number: u32, answer: i32)
 pub(crate) fn say_fault(out: &mut Buffer, fault: Fault)
     requires { out.old.len + line_room ≤ room out.old }
     ensures printed { filled out.new ≡ filled out.old ++ shown_fault fault }
+    ensures text { IsText out.old → IsText out.new }
     ensures same_lent { SameLent out.old out.new }
 {
     say(out, fault.line(), i32::from(fault));

@@ -4,7 +4,7 @@
 
 ghost use Rattle.std.specs.Prelude.{length, ◌≤◌, IfOk};
 
-use desk::{Buffer, Desk, Draft};
+use desk::{Buffer, LentDesk, LentDraft};
 use std::io;
 use std::io::{Eprint, Print, Read};
 
@@ -45,14 +45,14 @@ fn run<P: Print>(to: &P, input: &[u8]) -> io::Result<()> {
     let mut listing = [0u8; model::LIST_ROOM];
     let mut printed = [0u8; desk::OUTPUT_ROOM];
     let mut out = Buffer::new(&mut printed);
-    let begun = desk::program::start(input, &mut card, &mut out);
+    let begun = desk::program::start_in(input, &mut card, &mut out);
     write(to, &out)?;
     let Some(first) = begun else {
         return Ok(());
     };
-    let mut desk = Desk {
+    let mut desk = LentDesk {
         card: &mut card,
-        draft: Draft::new(&mut draft),
+        draft: LentDraft::new(&mut draft),
     };
     let mut stand = Some(first);
     while let Some(at) = stand {

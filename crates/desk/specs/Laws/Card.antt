@@ -1,6 +1,7 @@
 -- A card: the record of a device and a book within the limits, and a call on it. Assumes nothing.
-use Rattle.std.specs.Prelude.{◌≡◌, true, List, [], ℕ}
+use Rattle.std.specs.Prelude.{◌≡◌, true, List, [], ℕ, length}
 use Rattle.std.proofs.Common.{ap, ◌∙◌}
+use Rattle.model.specs.Limits.{record_size}
 use Rattle.model.specs.Columns.{Device}
 use Rattle.model.specs.Book.{Book}
 use Rattle.model.specs.Record.{record_of, device_of, book_of}
@@ -8,6 +9,7 @@ use Rattle.model.specs.Sound.{within}
 use Rattle.model.specs.Calls.{Call, Outcome, on_book}
 use Rattle.model.specs.OnRecord.{written, on_record}
 use Rattle.model.proofs.Laws.Kept.{within_new, kept}
+use Rattle.model.proofs.Laws.Record.{record_length}
 use Rattle.model.proofs.Laws.Step.{same_step}
 use Rattle.model.proofs.Laws.ReadBack.{device_of_record, book_of_record}
 use Rattle.desk.specs.Desk.{Card}
@@ -16,6 +18,10 @@ use Rattle.desk.specs.Input.{Begun}
 -- the record of a device and a book within the limits is a card
 card_of : (d : Device) (b : Book) → within d b ≡ true → Card (record_of d b)
 card_of d b w = record { within = rw (device_of_record d b w, book_of_record d b w) w; is = rw (device_of_record d b w, book_of_record d b w) }
+
+-- it is as long as a record
+pub card_length : (r : List ℕ) → Card r → length r ≡ record_size
+card_length r k = ap length k.is ∙ record_length (device_of r) (book_of r)
 
 -- a call on a card is the call on its book
 pub on_card : (r : List ℕ) → Card r → (c : Call) → on_record r c ≡ written (device_of r) (on_book (device_of r) (book_of r) c)

@@ -1,9 +1,5 @@
--- `start`: the fourth line, or no line after the first three. Assumes nothing.
-use Rattle.std.proofs.Common.{◌∙◌}
-use Rattle.desk.specs.Laws.Program.{started}
+-- `start`: nothing follows a line at fault. Assumes nothing.
 use Rattle.desk.proofs.program.start.Goals as goal
 
-pub returns-in-Ok-clause-starts : goal.returns-in-Ok-clause-starts
-returns-in-Ok-clause-starts c =
-    let x = c.in-Ok.ensures in
-    started _ _ _ _ x.0 x.2 (rw (c.push.ensures.bytes, c.clear.ensures.empty) (c.as_bytes.ensures.value ∙ c.names.ensures)) c.at.result c.at.ensures
+pub returns-in_default : goal.returns-in_default
+returns-in_default g c = rw (c.put.ensures, c.as_slice.ensures) c.in_default.ensures.starts

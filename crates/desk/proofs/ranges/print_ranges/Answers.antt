@@ -10,7 +10,7 @@ use Rattle.desk.proofs.ranges.print_ranges.Goals as goal
 
 pub loop-range-init : goal.loop-range-init
 unfolding join_in
-loop-range-init c = record { printed = sym (append-nil _); fits = omega arith; same_lent = (refl, refl) }
+loop-range-init c = record { printed = sym (append-nil _); fits = omega arith; text = λ t. t; same_lent = (refl, refl) }
 
 pub push-requires : goal.push-requires
 push-requires c =
@@ -26,6 +26,7 @@ loop-range-preserved c =
     record {
       printed = rw (c.push.ensures.bytes, c.loop-range.invariant.printed, line, append_assoc) (ap (λ (l : List ℕ). filled c.args.out.now ++ l) (shows_more _ _ i L c.loop-range-test.true));
       fits = omega (arith, c.push.ensures.len, c.as_str.ensures.fits);
+      text = λ t. c.push.ensures.text (c.loop-range.invariant.text t) c.as_bytes.ensures.utf8;
       same_lent = search rules;
     }
 

@@ -1,6 +1,6 @@
--- `Desk::place`: the record that the call leaves is a card. Assumes nothing.
+-- `LentDesk::place`: the record that the call leaves is a card. Assumes nothing.
 use Rattle.desk.specs.Laws.Card.{card_after}
-use Rattle.desk.proofs.Desk.place.Goals as goal
+use Rattle.desk.proofs.LentDesk.place.Goals as goal
 
 pub invariant_of-self : goal.invariant_of-self
 invariant_of-self c = record { is_card = card_after _ c.args.self.now.is_card _ c.place.ensures.record_is }

@@ -1,7 +1,7 @@
--- `Desk::list`: a refusal is printed as one, and otherwise the ranges that were written are printed. Assumes nothing.
+-- `LentDesk::list`: a refusal is printed as one, and otherwise the ranges that were written are printed. Assumes nothing.
 use Rattle.std.proofs.Common.{w32, to_z-of_z, arith}
 use Rattle.desk.specs.Laws.Listing.{list_refused, list_done}
-use Rattle.desk.proofs.Desk.list.Goals as goal
+use Rattle.desk.proofs.LentDesk.list.Goals as goal
 
 pub print_ranges-requires-clause-listed : goal.print_ranges-requires-clause-listed
 print_ranges-requires-clause-listed c =

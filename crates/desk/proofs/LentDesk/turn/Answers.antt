@@ -1,6 +1,6 @@
--- `Desk::turn`: one turn of the model's program. Assumes nothing.
+-- `LentDesk::turn`: one turn of the model's program. Assumes nothing.
 use Rattle.desk.specs.Laws.Program.{next_desk, left_at, number_at}
-use Rattle.desk.proofs.Desk.turn.Goals as goal
+use Rattle.desk.proofs.LentDesk.turn.Goals as goal
 
 pub returns-clause-turned : goal.returns-clause-turned
 returns-clause-turned c =

@@ -1,4 +1,4 @@
--- `Desk::on_call`: one law for each call. Assumes nothing.
+-- `LentDesk::on_call`: one law for each call. Assumes nothing.
 use Rattle.std.proofs.Common.{◌≡◌, pos, w16, w32, refl, to_z-of_z, rules}
 use Rattle.std.proofs.Math.Nat.{lt_of_not-le}
 use Rattle.model.specs.Calls.{choose, place, release}
@@ -7,7 +7,7 @@ use Rattle.card.specs.Answers.{answer_by, position_of}
 use Rattle.desk.specs.Buffer.{filled}
 use Rattle.desk.specs.Laws.Buffer.{len_filled}
 use Rattle.desk.specs.Laws.Lines.{leaves_added, leaves_full, leaves_emptied, leaves_listed, leaves_answered}
-use Rattle.desk.proofs.Desk.on_call.Goals as goal
+use Rattle.desk.proofs.LentDesk.on_call.Goals as goal
 
 pub returns-in-Err-clause-leaves : goal.returns-in-Err-clause-leaves
 returns-in-Err-clause-leaves c =
