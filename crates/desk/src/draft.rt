@@ -13,7 +13,7 @@ use card::Refusal;
 use line::call::BlockCall;
 use model::BLOCK_SIZE;
 
-// The bytes of whole blocks, 32 of them at most, its own.
+// The bytes of whole blocks, 32 of them at most, which it owns.
 #[derive(Drop)]
 pub struct Draft {
     pub bytes: ArrayVec<u8, DRAFT_ROOM>,
@@ -42,7 +42,7 @@ impl Draft {
         LentDraft { bytes }
     }
 
-    // The blocks that are lent become its own.
+    // Takes over the blocks of a lent draft.
     pub(crate) fn keep(&mut self, lent: &LentDraft)
         ensures { self.new.bytes.items ≡ filled lent.now.bytes }
     {

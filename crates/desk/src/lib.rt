@@ -38,7 +38,7 @@ pub const OUTPUT_ROOM: usize = line::LINE_ROOM * (model::LIST_ROOM / model::RANG
 // A malformed line's refusal.
 pub const MALFORMED_LINE: i32 = -12;
 
-// Room for what a turn prints, as a text of its own. A turn of a `Desk` takes any that is no smaller, and its start any that has room for two lines.
+// Room for what a turn prints, as text. A turn of a `Desk` takes any that is no smaller, and its start any that has room for two lines.
 pub type Output = ArrayString<OUTPUT_ROOM>;
 
 // A card's record and a draft task that it owns, for a caller that hands the desk on. Each of its turns is one of a `LentDesk` on copies of them.

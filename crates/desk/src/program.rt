@@ -1,6 +1,6 @@
 // The program, turn by turn: its start, and one turn.
 // That a start and the turns after it print the model's program is `program_done` (specs/Laws/Program.antt).
-ghost use Rattle.std.specs.Prelude.{◌≡◌, ◌*◌, ◌≤◌, [], None, Some, length, MatchOption};
+ghost use Rattle.std.specs.Prelude.{◌≡◌, ◌*◌, ◌≤◌, [], None, Some, length, IfSome, MatchOption};
 ghost use Rattle.model.specs.Limits.{record_size, list_room};
 ghost use Rattle.model.specs.Program.{Desk as ModelDesk};
 ghost use Rattle.line.specs.Print.{line_room};
@@ -64,7 +64,8 @@ pub fn start<'a, const N: usize>(
     out: &mut ArrayString<N>,
 ) -> Option<(Desk, Stand<'a>)>
     requires { 2 * line_room ≤ N }
-    ensures { MatchOption result ((k : ModelDesk) → Starts input.now (state k None out.new.bytes)) (λ r. Starts input.now (state (desk_of r.0.card r.0.draft.bytes.items) (Some r.1) out.new.bytes)) }
+    ensures starts { MatchOption result ((k : ModelDesk) → Starts input.now (state k None out.new.bytes)) (λ r. Starts input.now (state (desk_of r.0.card r.0.draft.bytes.items) (Some r.1) out.new.bytes)) }
+    ensures no_block { IfSome result (λ r. r.0.draft.bytes.items ≡ []) }
 {
     let mut card = [0u8; RECORD_SIZE];
     let mut printed = [0u8; 2 * LINE_ROOM];
@@ -90,7 +91,7 @@ impl Desk {
     }
 
     // One turn: the line at which the program stands. It is a turn of a `LentDesk` on copies: a `LentDesk` holds another struct that borrows, and of such
-    // a one the checker does not say what the lender is left with. So it has arrays of 373 KiB.
+    // a one the checker does not say what the lender is left with. So it has room of its own for a card, a draft, a listing and the longest output.
     pub fn turn<'a, const N: usize>(
         &mut self,
         stand: Stand<'a>,

@@ -3,7 +3,10 @@ use crate::program::start;
 use crate::{Desk, Output, Stand};
 use arrayvec::ArrayString;
 
-// A desk that is its own outlives the function that began it.
+// Room for two lines, which is enough for a start.
+const TWO_LINES: usize = 2 * line::LINE_ROOM;
+
+// A desk owns its card and its draft, so it outlives the function that began it.
 fn begun<'a>(sheet: &'a str, out: &mut Output) -> Option<(Desk, Stand<'a>)> {
     start(sheet.as_bytes(), out)
 }
@@ -51,8 +54,7 @@ fn a_desk_is_handed_on(rt: HostRuntime) {
 
 #[test]
 fn a_sheet_at_fault_begins_no_desk(rt: HostRuntime) {
-    // Room for two lines is enough.
-    let mut out = ArrayString::<160>::new();
+    let mut out = ArrayString::<TWO_LINES>::new();
     assert!(rt; start(b"rows kinds\n0 C\n", &mut out).is_none());
     assert_eq!(rt;
         out.as_str(),
